@@ -1,0 +1,5 @@
+pub mod Faults
+pub mod Files
+pub mod Sinks
+pub mod Memory
+pub mod Streams
