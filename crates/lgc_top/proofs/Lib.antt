@@ -1,0 +1,9 @@
+pub mod Descriptions
+pub mod Endings
+pub mod Forms
+pub mod Readings
+pub mod RowClauses
+pub mod RowRules
+pub mod RuleLists
+pub mod TextLaws
+pub mod Tokens

@@ -1,0 +1,8 @@
+use Rattle.lgc_top.proofs.Endings.{prints_calculus, completes}
+use Rattle.lgc_top.proofs.run.run_multlog.Goals as goal
+
+pub returns-clause-calculus : goal.returns-clause-calculus
+returns-clause-calculus g c = prints_calculus _ _ c.run_words.ensures
+
+pub returns-clause-complete : goal.returns-clause-complete
+returns-clause-complete g c = completes _ _ c.run_words.ensures

@@ -1,0 +1,7 @@
+pub mod Text
+pub mod PlainForm
+pub mod PlainReading
+pub mod Spec
+pub mod Calculus
+pub mod Commands
+pub mod Run
