@@ -1,0 +1,10 @@
+pub mod Readers
+pub mod Basic
+pub mod Sequences
+pub mod Choices
+pub mod Rules
+pub mod Repetitions
+pub mod Loops
+pub mod Classes
+pub mod Example
+pub mod Exact

@@ -1,0 +1,4 @@
+pub mod Scanning
+pub mod PieceLaws
+pub mod CutLaws
+pub mod SpanLaws

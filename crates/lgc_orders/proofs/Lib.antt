@@ -1,0 +1,3 @@
+pub mod BoundLaws
+pub mod LinkLaws
+pub mod TableLaws

@@ -1,0 +1,6 @@
+use Rattle.std.proofs.Common.{ℕ, ◌<◌}
+use Rattle.lgc_orders.specs.Order.{Below, IsLowerBound}
+use Rattle.lgc_orders.proofs.order.Order.is_inf.Given as goal
+
+abbrev pub invariant-loop-d : goal.invariant-loop-d
+invariant-loop-d l = (d : ℕ) → d < l.d → IsLowerBound (Below l.self) l.a l.b d → Below l.self d l.c
