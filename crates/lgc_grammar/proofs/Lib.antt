@@ -6,5 +6,4 @@ pub mod Rules
 pub mod Repetitions
 pub mod Loops
 pub mod Classes
-pub mod Example
 pub mod Exact

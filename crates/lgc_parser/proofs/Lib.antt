@@ -1,0 +1,8 @@
+pub mod Tables
+pub mod WordReads
+pub mod Lists
+pub mod OrderReads
+pub mod Tops
+pub mod SpecReads
+pub mod Keeps
+pub mod TreeWords

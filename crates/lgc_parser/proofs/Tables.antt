@@ -1,0 +1,98 @@
+-- Single tokens: a token of each class, and that no token passes two tests of different classes.
+use Rattle.std.proofs.Common.{◌≡◌, ℕ, Bool, true, false, List, [], Some, refl, ap, ◌∙◌}
+use Rattle.std.specs.Prelude.{codes, not, ◌&&◌}
+use Rattle.lgc_grammar.specs.Grammar.{One, Mapped}
+use Rattle.lgc_grammar.specs.Reading.{one_at}
+use Rattle.lgc_grammar.proofs.Readers.{ReadsAll, Must, never}
+use Rattle.lgc_grammar.proofs.Basic.{one_reads, map_all}
+use Rattle.lgc_grammar.proofs.Classes.{IsTable, entry, all_pass, apart}
+use Rattle.lgc_lexer.specs.declared.token.Kind.{Kind}
+use Rattle.lgc_lexer.specs.declared.token.Kind.TheVariants as kind
+use Rattle.lgc_parser.specs.declared.class.Class.{Class}
+use Rattle.lgc_parser.specs.declared.class.Class.TheVariants.{LogicWord, ValuesWord, DesignatedWord, OrderingWord, OperatorWord, QuantifierWord, MappingWord, TableWord, InducedWord, InfWord, SupWord, Lower, Upper, Number, Mixed, Quoted, Text, Less, Symbol, OpenRound, CloseRound, OpenBrace, CloseBrace, OpenSquare, CloseSquare, Comma, Dot, Colon, Slash, Punct}
+use Rattle.lgc_parser.specs.declared.terminal.Terminal.{Terminal}
+use Rattle.lgc_parser.specs.declared.terminal.Terminal.TheVariants as terminal
+use Rattle.lgc_parser.specs.Spelled.{Spelled, word_of}
+use Rattle.lgc_parser.specs.Classes.{classes, place, same, class_of, class_of_word, class_of_punct, passes, is, is_a}
+use Rattle.lgc_parser.specs.Reads.{word_at}
+
+table : IsTable classes
+table = record { place = place; holds = holds }
+  where
+    holds : (c : Class) → entry classes (place c) ≡ Some c
+    holds LogicWord = refl
+    holds c = refl
+
+-- a token whose class passes f doesn't pass g
+pub off : (f g : Class → Bool) → all_pass (λ c. not (f c && g c)) classes ≡ true → (t : Spelled) → f (class_of t) ≡ true → g (class_of t) ≡ false
+off = apart table class_of
+
+abbrev spelt : Kind → List ℕ → Spelled
+spelt k text = record { token = record { kind = k; start = 0; end = 0 }; text = text }
+
+-- a token of each class
+abbrev token : Class → Spelled
+token LogicWord = spelt kind.Lower (codes "logic")
+token ValuesWord = spelt kind.Lower (codes "truth_values")
+token DesignatedWord = spelt kind.Lower (codes "designated_truth_values")
+token OrderingWord = spelt kind.Lower (codes "ordering")
+token OperatorWord = spelt kind.Lower (codes "operator")
+token QuantifierWord = spelt kind.Lower (codes "quantifier")
+token MappingWord = spelt kind.Lower (codes "mapping")
+token TableWord = spelt kind.Lower (codes "table")
+token InducedWord = spelt kind.Lower (codes "induced_by")
+token InfWord = spelt kind.Lower (codes "inf")
+token SupWord = spelt kind.Lower (codes "sup")
+token Lower = spelt kind.Lower (codes "x")
+token Upper = spelt kind.Upper (codes "X")
+token Number = spelt kind.Digits (codes "1")
+token Mixed = spelt kind.Digits (codes "1x")
+token Quoted = spelt kind.Quoted (codes "x")
+token Text = spelt kind.Text []
+token Less = spelt kind.Symbol (codes "<")
+token Symbol = spelt kind.Symbol (codes "+")
+token OpenRound = spelt kind.Punct (codes "(")
+token CloseRound = spelt kind.Punct (codes ")")
+token OpenBrace = spelt kind.Punct (codes "{")
+token CloseBrace = spelt kind.Punct (codes "}")
+token OpenSquare = spelt kind.Punct (codes "[")
+token CloseSquare = spelt kind.Punct (codes "]")
+token Comma = spelt kind.Punct (codes ",")
+token Dot = spelt kind.Punct (codes ".")
+token Colon = spelt kind.Punct (codes ":")
+token Slash = spelt kind.Punct (codes "/")
+token Punct = spelt kind.Punct (codes ";")
+
+is_of_class : (c : Class) → class_of (token c) ≡ c
+unfolding class_of class_of_word class_of_punct
+is_of_class LogicWord = refl
+is_of_class c = refl
+
+-- a class of each terminal
+abbrev sample : Terminal → Class
+sample (terminal.Only c) = c
+sample terminal.LogicName = Text
+sample terminal.Bound = InfWord
+sample terminal.BracketedStart = OpenBrace
+sample terminal.StatementStart = LogicWord
+sample _ = Lower
+
+sample_passes : (t : Terminal) → passes t (sample t) ≡ true
+sample_passes (terminal.Only c) = by c
+  where
+    by : (c : Class) → same c c ≡ true
+    by LogicWord = refl
+    by c = refl
+sample_passes terminal.Name = refl
+sample_passes t = refl
+
+-- one token of a terminal, and its word
+pub one_of : (t : Terminal) → ReadsAll (one_at (is_a t)) (One (is_a t)) (Must (is_a t)) never
+one_of t = one_reads (is_a t) (token (sample t)) (ap (passes t) (is_of_class (sample t)) ∙ sample_passes t)
+
+pub one : (c : Class) → ReadsAll (one_at (is c)) (One (is c)) (Must (is c)) never
+one c = one_of (terminal.Only c)
+
+pub word_reads : (t : Terminal) → ReadsAll (word_at (is_a t)) (Mapped word_of (One (is_a t))) (Must (is_a t)) never
+unfolding word_at
+word_reads t = map_all word_of (one_of t)
