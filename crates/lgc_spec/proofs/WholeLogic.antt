@@ -1,0 +1,46 @@
+-- What the definition of a specification gives is a logic, where its names are plain.
+use Rattle.std.proofs.Common.{◌≡◌, ◌≢◌, ℕ, ◌+◌, ◌<◌, ◌≤◌, List, [], length, map, get_or, All, IfOk, Result, Ok, Err, refl, sym, arith}
+use Rattle.std.specs.List.{filter_map, AllPairs}
+use Rattle.std.proofs.lemmas.List.{append-nil}
+use Rattle.std.proofs.lemmas.List.Elements.{All-nil}
+use Rattle.lgc_values.specs.Values.{mask_of, members_of}
+use Rattle.lgc_values.specs.Logic.{IsLogic, IsPlainName, IsQuantifier}
+use Rattle.lgc_parser.specs.declared.tree.Statement.{Statement}
+use Rattle.lgc_spec.specs.declared.spec.Spec.{Spec}
+use Rattle.lgc_spec.specs.declared.fault.SpecFault.{SpecFault}
+use Rattle.lgc_spec.specs.Faults.{Answers}
+use Rattle.lgc_spec.specs.Statements.{first_some, name_in}
+use Rattle.lgc_spec.specs.Orderings.{OrderingsGive}
+use Rattle.lgc_spec.specs.Operators.{OperatorsGive, operator_in}
+use Rattle.lgc_spec.specs.Specification.{values_given, quantifier_in, logic_name, StatementsGive}
+use Rattle.lgc_spec.proofs.OperatorShapes.{unless_ok, follows_ok, then_ok}
+use Rattle.lgc_spec.proofs.LogicShapes.{values_are, members_kept, operators_are, symbols_apart, symbols_few}
+
+pub is_logic : (bytes : List ℕ) (statements : List Statement) (told : Spec) → All IsPlainName told.values → All (λ o. IsPlainName o.name) told.operators → StatementsGive bytes statements (Ok told) → IsLogic (record { size = length told.values; names = told.values; designated = members_of (length told.values) told.designated; operators = told.operators; quantifiers = told.quantifiers })
+is_logic bytes statements told plain plain_symbols h =
+    let (values, v, h1) = follows_ok (values_given bytes statements) _ told h in
+    let (orderings, o, h2) = then_ok (OrderingsGive bytes values.0 statements) _ told h1 in
+    let (operators, all, h3) = then_ok (OperatorsGive bytes values.0 orderings statements) _ told h2 in
+    let it : Spec = record { name = logic_name bytes (first_some name_in statements); values = values.0; designated = mask_of values.1; operators = operators; quantifiers = [] } in
+    let quiet = unless_ok (first_some quantifier_in statements) (Ok it) told (sym h3) in
+    let same : told ≡ it = same_spec told it (sym quiet.1) in
+    let law = values_are bytes statements values.0 values.1 v in
+    let some : 0 < length values.0 = omega (arith, law.0.some) in
+    let written = filter_map operator_in statements in
+    rw same (record {
+      sized = record { low = law.0.some; high = law.0.few };
+      named = refl;
+      plain = rw same at plain;
+      distinct = law.0.distinct;
+      designated = members_kept (length values.0) (mask_of values.1);
+      operators = operators_are bytes values.0 orderings some written operators all (rw same at plain_symbols);
+      quantifiers = All-nil (IsQuantifier (length values.0));
+      few = symbols_few bytes values.0 orderings some written operators all;
+      distinct_symbols = rw append-nil (symbols_apart bytes values.0 orderings some written operators all);
+    }) where
+      same_spec : (a b : Spec) → ◌≡◌ {A = Result Spec SpecFault} (Ok a) (Ok b) → a ≡ b
+      same_spec a b e = cc
+
+pub logic_told : (bytes : List ℕ) (statements : List Statement) (result : Result Spec SpecFault) → Answers (StatementsGive bytes statements) result → IfOk result (λ spec. All IsPlainName spec.values → All (λ o. IsPlainName o.name) spec.operators → IsLogic (record { size = length spec.values; names = spec.values; designated = members_of (length spec.values) spec.designated; operators = spec.operators; quantifiers = spec.quantifiers }))
+logic_told bytes statements (Ok told) h = λ plain plain_symbols. is_logic bytes statements told plain plain_symbols h
+logic_told bytes statements (Err fault) h = tt

@@ -1,0 +1,9 @@
+use Rattle.std.proofs.Common.{◌≡◌, ◌≤◌, take}
+use Rattle.lgc_spec.specs.Operators.{number_of}
+use Rattle.lgc_spec.proofs.operators.arity_of.Given as goal
+
+abbrev pub invariant-loop-digit : goal.invariant-loop-digit
+invariant-loop-digit l = record {
+  so_far : l.arity ≡ number_of (take l.digit-index l.digits);
+  small : l.arity ≤ 4;
+}

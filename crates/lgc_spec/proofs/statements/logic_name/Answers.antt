@@ -1,0 +1,12 @@
+use Rattle.std.proofs.Common.{sym}
+use Rattle.lgc_spec.specs.Statements.{name_in}
+use Rattle.lgc_spec.proofs.StatementLaws.{first_some_found, first_some_passes}
+use Rattle.lgc_spec.proofs.statements.logic_name.Goals as goal
+
+pub returns-in-Some : goal.returns-in-Some
+returns-in-Some c =
+    sym (first_some_found name_in c.args.statements.now c.loop-statement.statement-index _ _ c.loop-statement-test.true c.statement-item.is c.loop-statement.invariant (sym c.in-Some.ensures))
+
+pub loop-statement-preserved : goal.loop-statement-preserved
+loop-statement-preserved c =
+    first_some_passes name_in c.args.statements.now c.loop-statement.statement-index _ c.loop-statement-test.true c.statement-item.is c.loop-statement.invariant (sym c.in_default.ensures)

@@ -1,0 +1,16 @@
+pub mod Faults
+pub mod InOrder
+pub mod Words
+pub mod Statements
+pub mod Values
+pub mod Mappings
+pub mod Rows
+pub mod Tables
+pub mod Texts
+pub mod Stands
+pub mod Orderings
+pub mod KeptOrders
+pub mod Bounds
+pub mod Operators
+pub mod Specification
+pub mod OrderTexts

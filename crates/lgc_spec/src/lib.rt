@@ -1,0 +1,29 @@
+//! The logic of a specification's bytes, or the first reason why there is none.
+//!
+//! - [`read_spec`] answers the logic of the bytes ([`Spec`]), or their first fault ([`SpecFault`]).
+//! - [`matrix_of`] is the matrix of this logic, whose number of truth values is known when it is called.
+//!
+//! `specs/Specification.antt` says what the bytes give, by steps in the order of refusals. Each step has a definition of
+//! its own, which is its first fault or the part of the logic that it gives, and one private function.
+#![tactic(auto)]
+
+mod bounds;
+mod fault;
+mod mapping;
+mod matrix;
+mod operators;
+mod orderings;
+mod reading;
+mod spec;
+mod statements;
+mod table;
+#[cfg(test)]
+mod tests;
+mod texts;
+mod values;
+mod words;
+
+pub use fault::{Kept, Law, SpecFault};
+pub use matrix::matrix_of;
+pub use reading::read_spec;
+pub use spec::Spec;

@@ -1,0 +1,133 @@
+// Reading specifications: the steps, one after another.
+ghost use Rattle.std.specs.Prelude.{◌≡◌, All, IfSome, option_map, ◌<◌, ◌≤◌, ◌^◌, length, IfOk};
+ghost use Rattle.lgc_values.specs.declared.TheConstants.{MOST_VALUES};
+ghost use Rattle.lgc_values.specs.Values.{members_of};
+ghost use Rattle.lgc_values.specs.Logic.{IsLogic, IsPlainName};
+ghost use Rattle.lgc_parser.specs.TreeWords.{StatementHas};
+ghost use Rattle.lgc_spec.specs.Faults.{Answers, Gives, Passes, fault_at};
+ghost use Rattle.lgc_spec.specs.Words.{LiesIn};
+ghost use Rattle.lgc_spec.specs.Statements.{first_some};
+ghost use Rattle.lgc_spec.specs.Stands.{AnswersFor, TreeGives};
+ghost use Rattle.lgc_spec.specs.Specification.{BytesGive, StatementsGive, values_given, logic_name, quantifier_in};
+
+use crate::fault::{FILE_TOO_LONG, MISSING_STATEMENT, NOT_BUILT, SpecFault, UNEXPECTED, fault_at};
+use crate::operators::operators_given;
+use crate::orderings::orderings_given;
+use crate::spec::Spec;
+use crate::statements::{check_single, designated_values, logic_name, truth_values};
+use crate::texts::tokens_given;
+use crate::values::{designated_given, names_given};
+use crate::words::text_of;
+use lgc_parser::{SpecTree, Statement, SyntaxFault, Word, parse_spec};
+use lgc_values::{List, Name};
+use std::alloc::{AllocError, Global};
+
+/// The greatest length of a specification file, in bytes.
+pub(crate) const LONGEST_FILE: usize = 1_048_576;
+
+// The statements of a file.
+fn tree_given(alloc: Global, bytes: &[u8]) -> Result<SpecTree, SpecFault>
+    requires { length bytes.now < 2 ^ 32 }
+    ensures tree { AnswersFor (λ tree statements. tree.statements ≡ statements) (TreeGives bytes.now) result }
+    ensures words { IfOk result (λ tree. All (StatementHas (LiesIn (length bytes.now))) tree.statements) }
+{
+    let tokens = tokens_given(alloc, 0, bytes)?;
+    match parse_spec(alloc, bytes, &tokens) {
+        Ok(tree) => Ok(tree),
+        Err(SyntaxFault::Unexpected(offset)) => Err(fault_at(UNEXPECTED, offset)),
+        Err(SyntaxFault::Memory) => Err(SpecFault::Memory),
+    }
+}
+
+// The names of the truth values, and the mask of the designated ones.
+fn values_given(
+    alloc: Global,
+    bytes: &[u8],
+    statements: &[Statement],
+) -> Result<(List<Name>, u16), SpecFault>
+    requires length { length bytes.now < 2 ^ 32 }
+    requires words { All (StatementHas (LiesIn (length bytes.now))) statements.now }
+    ensures values { Gives (λ values. (values.0, members_of (length values.0) values.1)) result (values_given bytes.now statements.now) }
+    ensures some { IfOk result (λ values. 2 ≤ length values.0) }
+    ensures few { IfOk result (λ values. length values.0 ≤ MOST_VALUES) }
+    ensures below { IfOk result (λ values. values.1 < 2 ^ length values.0) }
+{
+    check_single(statements)?;
+    let end = bytes.len() as u32;
+    let Some((at, values)) = truth_values(statements) else {
+        return Err(fault_at(MISSING_STATEMENT, end));
+    };
+    let Some(designated) = designated_values(statements) else {
+        return Err(fault_at(MISSING_STATEMENT, end));
+    };
+    let names = names_given(alloc, bytes, at, values)?;
+    let mask = designated_given(bytes, names.items(), designated)?;
+    Ok((names, mask))
+}
+
+fn name_of(alloc: Global, bytes: &[u8], word: Option<Word>) -> Result<Name, AllocError>
+    requires { IfSome word (LiesIn (length bytes.now)) }
+    ensures { IfOk result (λ name. name ≡ logic_name bytes.now word) }
+{
+    match word {
+        Some(word) => Name::of_bytes(alloc, text_of(bytes, &word)),
+        None => Ok(Name::new(alloc)),
+    }
+}
+
+// Where a quantifier's name stands.
+fn quantifier_place(statement: &Statement) -> Option<u32>
+    ensures { option_map (λ place. fault_at NOT_BUILT place) result ≡ quantifier_in statement.now }
+{
+    match statement {
+        Statement::Quantifier { name, .. } => Some(name.at),
+        _ => None,
+    }
+}
+
+// That no quantifier is written.
+fn check_quantifiers(statements: &[Statement]) -> Result<(), SpecFault>
+    ensures { Passes result (first_some quantifier_in statements.now) }
+{
+    for statement in statements {
+        if let Some(place) = quantifier_place(statement) {
+            return Err(fault_at(NOT_BUILT, place));
+        }
+    }
+    Ok(())
+}
+
+// The logic of the statements of a file.
+fn logic_given(alloc: Global, bytes: &[u8], statements: &[Statement]) -> Result<Spec, SpecFault>
+    requires length { length bytes.now < 2 ^ 32 }
+    requires words { All (StatementHas (LiesIn (length bytes.now))) statements.now }
+    ensures answer { Answers (StatementsGive bytes.now statements.now) result }
+    ensures below { IfOk result (λ spec. spec.designated < 2 ^ length spec.values) }
+{
+    let (values, designated) = values_given(alloc, bytes, statements)?;
+    let orders = orderings_given(alloc, bytes, values.items(), statements)?;
+    let operators = operators_given(alloc, bytes, values.items(), &orders, statements)?;
+    check_quantifiers(statements)?;
+    Ok(Spec {
+        name: name_of(alloc, bytes, logic_name(statements))?,
+        values,
+        designated,
+        operators,
+        quantifiers: List::new(alloc),
+    })
+}
+
+/// The logic of the bytes, or their first fault. `Memory` may come at any bytes.
+pub fn read_spec(alloc: Global, bytes: &[u8]) -> Result<Spec, SpecFault>
+    ensures answer { Answers (BytesGive bytes.now) result }
+    ensures below { IfOk result (λ spec. spec.designated < 2 ^ length spec.values) }
+    // Where its names are plain, it is a logic.
+    ensures logic { IfOk result (λ spec. All IsPlainName spec.values → All (λ o. IsPlainName o.name) spec.operators
+        → IsLogic (record { size = length spec.values; names = spec.values; designated = members_of (length spec.values) spec.designated; operators = spec.operators; quantifiers = spec.quantifiers })) }
+{
+    if bytes.len() > LONGEST_FILE {
+        return Err(fault_at(FILE_TOO_LONG, LONGEST_FILE as u32));
+    }
+    let tree = tree_given(alloc, bytes)?;
+    logic_given(alloc, bytes, tree.statements.items())
+}
