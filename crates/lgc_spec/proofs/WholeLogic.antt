@@ -3,12 +3,13 @@ use Rattle.std.proofs.Common.{◌≡◌, ◌≢◌, ℕ, ◌+◌, ◌<◌, ◌�
 use Rattle.std.specs.List.{filter_map, AllPairs}
 use Rattle.std.proofs.lemmas.List.{append-nil}
 use Rattle.std.proofs.lemmas.List.Elements.{All-nil}
-use Rattle.lgc_values.specs.Values.{mask_of, members_of}
+use Rattle.lgc_values.specs.Values.{mask_of}
 use Rattle.lgc_values.specs.Logic.{IsLogic, IsPlainName, IsQuantifier}
 use Rattle.lgc_parser.specs.declared.tree.Statement.{Statement}
 use Rattle.lgc_spec.specs.declared.spec.Spec.{Spec}
 use Rattle.lgc_spec.specs.declared.fault.SpecFault.{SpecFault}
 use Rattle.lgc_spec.specs.Faults.{Answers}
+use Rattle.lgc_spec.specs.Logics.{logic_of}
 use Rattle.lgc_spec.specs.Statements.{first_some, name_in}
 use Rattle.lgc_spec.specs.Orderings.{OrderingsGive}
 use Rattle.lgc_spec.specs.Operators.{OperatorsGive, operator_in}
@@ -16,7 +17,7 @@ use Rattle.lgc_spec.specs.Specification.{values_given, quantifier_in, logic_name
 use Rattle.lgc_spec.proofs.OperatorShapes.{unless_ok, follows_ok, then_ok}
 use Rattle.lgc_spec.proofs.LogicShapes.{values_are, members_kept, operators_are, symbols_apart, symbols_few}
 
-pub is_logic : (bytes : List ℕ) (statements : List Statement) (told : Spec) → All IsPlainName told.values → All (λ o. IsPlainName o.name) told.operators → StatementsGive bytes statements (Ok told) → IsLogic (record { size = length told.values; names = told.values; designated = members_of (length told.values) told.designated; operators = told.operators; quantifiers = told.quantifiers })
+pub is_logic : (bytes : List ℕ) (statements : List Statement) (told : Spec) → All IsPlainName told.values → All (λ o. IsPlainName o.name) told.operators → StatementsGive bytes statements (Ok told) → IsLogic (logic_of told)
 is_logic bytes statements told plain plain_symbols h =
     let (values, v, h1) = follows_ok (values_given bytes statements) _ told h in
     let (orderings, o, h2) = then_ok (OrderingsGive bytes values.0 statements) _ told h1 in
@@ -41,6 +42,6 @@ is_logic bytes statements told plain plain_symbols h =
       same_spec : (a b : Spec) → ◌≡◌ {A = Result Spec SpecFault} (Ok a) (Ok b) → a ≡ b
       same_spec a b e = cc
 
-pub logic_told : (bytes : List ℕ) (statements : List Statement) (result : Result Spec SpecFault) → Answers (StatementsGive bytes statements) result → IfOk result (λ spec. All IsPlainName spec.values → All (λ o. IsPlainName o.name) spec.operators → IsLogic (record { size = length spec.values; names = spec.values; designated = members_of (length spec.values) spec.designated; operators = spec.operators; quantifiers = spec.quantifiers }))
+pub logic_told : (bytes : List ℕ) (statements : List Statement) (result : Result Spec SpecFault) → Answers (StatementsGive bytes statements) result → IfOk result (λ spec. All IsPlainName spec.values → All (λ o. IsPlainName o.name) spec.operators → IsLogic (logic_of spec))
 logic_told bytes statements (Ok told) h = λ plain plain_symbols. is_logic bytes statements told plain plain_symbols h
 logic_told bytes statements (Err fault) h = tt

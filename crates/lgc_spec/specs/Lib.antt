@@ -1,4 +1,5 @@
 pub mod Faults
+pub mod Logics
 pub mod InOrder
 pub mod Words
 pub mod Statements

@@ -1,7 +1,7 @@
 // The matrix of a specification's logic.
-ghost use Rattle.std.specs.Prelude.{◌≡◌, ◌<◌, ◌^◌, IfOk};
-ghost use Rattle.lgc_values.specs.Values.{members_of};
+ghost use Rattle.std.specs.Prelude.{◌≡◌, ◌<◌, ◌^◌, length, IfOk};
 ghost use Rattle.lgc_values.specs.Logic.{IsLogic};
+ghost use Rattle.lgc_spec.specs.Logics.{logic_of};
 
 use crate::spec::Spec;
 use lgc_values::{List, Matrix, Name, Operator, Quantifier, ValueSet};
@@ -53,9 +53,10 @@ fn copy_quantifiers(
 
 /// The matrix of a specification with `N` truth values.
 pub fn matrix_of<const N: usize>(alloc: Global, spec: &Spec) -> Result<Matrix<N>, AllocError>
-    requires logic { IsLogic (record { size = N; names = spec.now.values; designated = members_of N spec.now.designated; operators = spec.now.operators; quantifiers = spec.now.quantifiers }) }
+    requires size { length spec.now.values ≡ N }
+    requires logic { IsLogic (logic_of spec.now) }
     requires designated { spec.now.designated < 2 ^ N }
-    ensures { IfOk result (λ matrix. matrix ≡ record { size = N; names = spec.now.values; designated = members_of N spec.now.designated; operators = spec.now.operators; quantifiers = spec.now.quantifiers }) }
+    ensures { IfOk result (λ matrix. matrix ≡ logic_of spec.now) }
 {
     let names = copy_names(alloc, spec.values.items())?;
     let operators = copy_operators(alloc, spec.operators.items())?;

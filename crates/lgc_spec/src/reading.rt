@@ -5,6 +5,7 @@ ghost use Rattle.lgc_values.specs.Values.{members_of};
 ghost use Rattle.lgc_values.specs.Logic.{IsLogic, IsPlainName};
 ghost use Rattle.lgc_parser.specs.TreeWords.{StatementHas};
 ghost use Rattle.lgc_spec.specs.Faults.{Answers, Gives, Passes, fault_at};
+ghost use Rattle.lgc_spec.specs.Logics.{logic_of};
 ghost use Rattle.lgc_spec.specs.Words.{LiesIn};
 ghost use Rattle.lgc_spec.specs.Statements.{first_some};
 ghost use Rattle.lgc_spec.specs.Stands.{AnswersFor, TreeGives};
@@ -123,7 +124,7 @@ pub fn read_spec(alloc: Global, bytes: &[u8]) -> Result<Spec, SpecFault>
     ensures below { IfOk result (λ spec. spec.designated < 2 ^ length spec.values) }
     // Where its names are plain, it is a logic.
     ensures logic { IfOk result (λ spec. All IsPlainName spec.values → All (λ o. IsPlainName o.name) spec.operators
-        → IsLogic (record { size = length spec.values; names = spec.values; designated = members_of (length spec.values) spec.designated; operators = spec.operators; quantifiers = spec.quantifiers })) }
+        → IsLogic (logic_of spec)) }
 {
     if bytes.len() > LONGEST_FILE {
         return Err(fault_at(FILE_TOO_LONG, LONGEST_FILE as u32));
