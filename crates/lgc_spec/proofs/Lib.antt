@@ -25,3 +25,7 @@ pub mod LogicShapes
 pub mod OperatorShapes
 pub mod ReadingSteps
 pub mod WholeLogic
+pub mod OneAnswer
+pub mod OneInTurn
+pub mod OneOrder
+pub mod OneSpec

@@ -1,9 +1,11 @@
 // Reading specifications: the steps, one after another.
-ghost use Rattle.std.specs.Prelude.{◌≡◌, All, IfSome, option_map, ◌<◌, ◌≤◌, ◌^◌, length, IfOk};
+ghost use Rattle.std.specs.Prelude.{◌≡◌, All, IfSome, option_map, ◌<◌, ◌≤◌, ◌^◌, length, IfOk, Result};
 ghost use Rattle.lgc_values.specs.declared.TheConstants.{MOST_VALUES};
 ghost use Rattle.lgc_values.specs.Values.{members_of};
 ghost use Rattle.lgc_values.specs.Logic.{IsLogic, IsPlainName};
 ghost use Rattle.lgc_parser.specs.TreeWords.{StatementHas};
+ghost use Rattle.lgc_spec.specs.declared.spec.Spec.{Spec};
+ghost use Rattle.lgc_spec.specs.declared.fault.SpecFault.{SpecFault};
 ghost use Rattle.lgc_spec.specs.Faults.{Answers, Gives, Passes, fault_at};
 ghost use Rattle.lgc_spec.specs.Logics.{logic_of};
 ghost use Rattle.lgc_spec.specs.Words.{LiesIn};
@@ -121,6 +123,8 @@ fn logic_given(alloc: Global, bytes: &[u8], statements: &[Statement]) -> Result<
 /// The logic of the bytes, or their first fault. `Memory` may come at any bytes.
 pub fn read_spec(alloc: Global, bytes: &[u8]) -> Result<Spec, SpecFault>
     ensures answer { Answers (BytesGive bytes.now) result }
+    // What the bytes give is answered, and nothing else.
+    ensures complete { (told : Result Spec SpecFault) → BytesGive bytes.now told → Gives (λ spec. spec) result told }
     ensures below { IfOk result (λ spec. spec.designated < 2 ^ length spec.values) }
     // Where its names are plain, it is a logic.
     ensures logic { IfOk result (λ spec. All IsPlainName spec.values → All (λ o. IsPlainName o.name) spec.operators
