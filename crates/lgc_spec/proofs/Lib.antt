@@ -25,3 +25,4 @@ pub mod LogicShapes
 pub mod OperatorShapes
 pub mod ReadingSteps
 pub mod WholeLogic
+pub mod TakenNames
