@@ -1,7 +1,7 @@
 -- Steps of the loop over the orderings of a file.
-use Rattle.std.proofs.Common.{◌≡◌, ℕ, zero, suc, ◌+◌, ◌<◌, Bool, true, false, List, [], ◌∷◌, ◌++◌, length, map, take, drop, get_or, position, is_some, Option, Some, None, Result, Ok, Err, refl, sym, ap, ◌∙◌, below_more, bytes_eq, All, arith}
-use Rattle.std.specs.List.{filter_map, list_any, AllZip}
-use Rattle.std.proofs.lemmas.List.{append-nil, take_more, take-append-drop, take-append-le, take_at, get_or_append_left, get_or_push, length_push, length-append, map-append}
+use Rattle.std.proofs.Common.{◌≡◌, ℕ, zero, suc, ◌+◌, ◌<◌, true, false, List, [], ◌∷◌, ◌++◌, length, map, take, drop, get_or, Option, Some, None, Result, Ok, Err, refl, sym, ap, ◌∙◌, below_more, All, arith}
+use Rattle.std.specs.List.{filter_map, AllZip}
+use Rattle.std.proofs.lemmas.List.{append-nil, take_more, take-append-drop, take-append-le, take_at, get_or_append_left, get_or_push, length_push, length-append}
 use Rattle.std.proofs.lemmas.Option.{same_Some}
 use Rattle.std.proofs.lemmas.List.Elements.{filter_map-append, All-append}
 use Rattle.lgc_parser.specs.declared.tree.Word.{Word}
