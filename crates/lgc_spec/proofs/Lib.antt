@@ -29,3 +29,4 @@ pub mod OneAnswer
 pub mod OneInTurn
 pub mod OneOrder
 pub mod OneSpec
+pub mod TakenNames

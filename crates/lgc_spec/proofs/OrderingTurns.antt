@@ -1,7 +1,7 @@
 -- Steps of the loop over the orderings of a file.
-use Rattle.std.proofs.Common.{◌≡◌, ℕ, zero, suc, ◌+◌, ◌<◌, Bool, true, false, List, [], ◌∷◌, ◌++◌, length, map, take, drop, get_or, position, is_some, Option, Some, None, Result, Ok, Err, refl, sym, ap, ◌∙◌, below_more, bytes_eq, All, arith}
-use Rattle.std.specs.List.{filter_map, list_any, AllZip}
-use Rattle.std.proofs.lemmas.List.{append-nil, take_more, take-append-drop, take-append-le, take_at, get_or_append_left, get_or_push, length_push, length-append, map-append}
+use Rattle.std.proofs.Common.{◌≡◌, ℕ, zero, suc, ◌+◌, ◌<◌, true, false, List, [], ◌∷◌, ◌++◌, length, map, take, drop, get_or, Option, Some, None, Result, Ok, Err, refl, sym, ap, ◌∙◌, below_more, All, arith}
+use Rattle.std.specs.List.{filter_map, AllZip}
+use Rattle.std.proofs.lemmas.List.{append-nil, take_more, take-append-drop, take-append-le, take_at, get_or_append_left, get_or_push, length_push, length-append}
 use Rattle.std.proofs.lemmas.Option.{same_Some}
 use Rattle.std.proofs.lemmas.List.Elements.{filter_map-append, All-append}
 use Rattle.lgc_parser.specs.declared.tree.Word.{Word}
@@ -72,39 +72,13 @@ all_zip_push R (a ∷ xs) (b ∷ ys) x y all now = (all.0, all_zip_push R xs ys 
 
 -- ---- a name that comes again
 
-is_some-position : {X : Type 0} (p : X → Bool) (xs : List X) → is_some (position p xs) ≡ list_any p xs
-is_some-position p [] = refl
-is_some-position p (x ∷ xs) = grind (arith, is_some-position p xs)
+pub duplicate_gives : (bytes : List ℕ) (values : List (List ℕ)) (xs : List (Word × Word)) (name word : Word) → is_among (map (λ o. text_of bytes o.0) xs) (text_of bytes name) ≡ true → OrderingGives bytes values xs (name, word) (Err (fault_at DUPLICATE_NAME name.at))
+duplicate_gives bytes values xs name word again = rw again refl
 
-among_named : (bytes text : List ℕ) (orders : List NamedOrder) (xs : List (Word × Word)) → map (λ o. o.name) orders ≡ map (λ o. o.0) xs → is_among (map (λ o. text_of bytes o.0) xs) text ≡ list_any (λ o. bytes_eq (text_of bytes o.name) text) orders
-among_named bytes text [] [] e = refl
-among_named bytes text [] (x ∷ xs) e = cc
-among_named bytes text (o ∷ orders) [] e = cc
-among_named bytes text (o ∷ orders) (x ∷ xs) e =
-    let same : o.name ≡ x.0 = cc in
-    let rest : map (λ o. o.name) orders ≡ map (λ o. o.0) xs = cc in
-    rw (same, among_named bytes text orders xs rest) refl
-
-named_again : (bytes : List ℕ) (items orders : List NamedOrder) (xs : List (Word × Word)) (name : Word) (text : List ℕ) (place : Option ℕ) (some again : Bool) → map (λ o. o.name) orders ≡ map (λ o. o.0) xs → items ≡ orders → text ≡ text_of bytes name → place ≡ position (λ o. bytes_eq (text_of bytes o.name) text) items → some ≡ is_some place → some ≡ again → is_among (map (λ o. text_of bytes o.0) xs) (text_of bytes name) ≡ again
-named_again bytes items orders xs name text place some again names same is at e a =
-    let found : is_some (position (λ o. bytes_eq (text_of bytes o.name) text) orders) ≡ again = rw (← same, ← at, ← e) a in
-    ap (is_among (map (λ o. text_of bytes o.0) xs)) (sym is) ∙ among_named bytes text orders xs names ∙ sym (is_some-position (λ o. bytes_eq (text_of bytes o.name) text) orders) ∙ found
-
-pub duplicate_gives : (bytes : List ℕ) (values : List (List ℕ)) (items orders : List NamedOrder) (xs : List (Word × Word)) (name word : Word) (text : List ℕ) (place : Option ℕ) (some : Bool) → map (λ o. o.name) orders ≡ map (λ o. o.0) xs → items ≡ orders → text ≡ text_of bytes name → place ≡ position (λ o. bytes_eq (text_of bytes o.name) text) items → some ≡ is_some place → some ≡ true → OrderingGives bytes values xs (name, word) (Err (fault_at DUPLICATE_NAME name.at))
-duplicate_gives bytes values items orders xs name word text place some names same is at e a =
-    let again : is_among (map (λ o. text_of bytes o.0) xs) (text_of bytes name) ≡ true = named_again bytes items orders xs name text place some true names same is at e a in
-    rw again refl
-
-pub new_gives : (bytes : List ℕ) (values : List (List ℕ)) (items orders : List NamedOrder) (xs : List (Word × Word)) (name word : Word) (text : List ℕ) (place : Option ℕ) (some : Bool) (told : Result Ordered SpecFault) → map (λ o. o.name) orders ≡ map (λ o. o.0) xs → items ≡ orders → text ≡ text_of bytes name → place ≡ position (λ o. bytes_eq (text_of bytes o.name) text) items → some ≡ is_some place → some ≡ false → TextGives bytes values name word told → OrderingGives bytes values xs (name, word) told
-new_gives bytes values items orders xs name word text place some told names same is at e a gives =
-    let again : is_among (map (λ o. text_of bytes o.0) xs) (text_of bytes name) ≡ false = named_again bytes items orders xs name text place some false names same is at e a in
-    rw again gives
+pub new_gives : (bytes : List ℕ) (values : List (List ℕ)) (xs : List (Word × Word)) (name word : Word) (told : Result Ordered SpecFault) → is_among (map (λ o. text_of bytes o.0) xs) (text_of bytes name) ≡ false → TextGives bytes values name word told → OrderingGives bytes values xs (name, word) told
+new_gives bytes values xs name word told new gives = rw new gives
 
 -- ---- one ordering more
-
-pub names_push : (orders : List NamedOrder) (xs : List (Word × Word)) (order : NamedOrder) (x : Word × Word) → map (λ o. o.name) orders ≡ map (λ o. o.0) xs → order.name ≡ x.0 → map (λ o. o.name) (orders ++ order ∷ []) ≡ map (λ o. o.0) (xs ++ x ∷ [])
-names_push orders xs order x e now =
-    map-append (λ o. o.name) orders (order ∷ []) ∙ ap (λ l. l ++ order.name ∷ []) e ∙ ap (λ n. map (λ o. o.0) xs ++ n ∷ []) now ∙ sym (map-append (λ o. o.0) xs (x ∷ []))
 
 name_lies : (P : Word → Type 0) (s : Statement) (name text : Word) → StatementHas P s → Some (name, text) ≡ ordering_in s → P name
 name_lies P (Ordering n t) name text has e =

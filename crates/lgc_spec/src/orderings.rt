@@ -23,6 +23,7 @@ use lgc_orders::{Order, OrderFault};
 use lgc_parser::{Statement, SyntaxFault, Word, parse_order};
 use lgc_values::{List, MOST_VALUES, Name};
 use std::alloc::{AllocError, Global};
+use std::collections::BTreeSet;
 
 /// An ordering of the truth values, with its name.
 #[derive(Debug, Drop)]
@@ -234,9 +235,12 @@ pub(crate) fn orderings_given(
     ensures sizes { IfOk result (λ orders. All (λ o. o.order.size ≡ length names.now) orders.items) }
 {
     let mut orders = Vec::new(alloc);
+    // The names so far. There may be many.
+    let mut taken = BTreeSet::new(alloc);
     for statement in statements {
         if let Some((name, text)) = ordering_in(statement) {
-            if find_order(bytes, &orders, text_of(bytes, &name)).is_some() {
+            let is_new = taken.insert(text_of(bytes, &name))?;
+            if !is_new {
                 return Err(fault_at(DUPLICATE_NAME, name.at));
             }
             let order = order_given(alloc, bytes, names, &name, &text)?;
