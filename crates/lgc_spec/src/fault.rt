@@ -46,7 +46,8 @@ pub(crate) const CYCLE: u8 = 19;
 
 pub(crate) const NO_BOUND: u8 = 20;
 
-pub(crate) const FILE_TOO_LONG: u8 = 26;
+/// The number of the fault of a file that is too long.
+pub const FILE_TOO_LONG: u8 = 26;
 
 pub(crate) const NOT_BUILT: u8 = 27;
 

@@ -23,7 +23,7 @@ mod texts;
 mod values;
 mod words;
 
-pub use fault::{Kept, Law, SpecFault};
+pub use fault::{FILE_TOO_LONG, Kept, Law, SpecFault};
 pub use matrix::matrix_of;
-pub use reading::read_spec;
+pub use reading::{LONGEST_FILE, read_spec};
 pub use spec::Spec;

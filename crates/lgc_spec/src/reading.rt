@@ -26,7 +26,7 @@ use lgc_values::{List, Name};
 use std::alloc::{AllocError, Global};
 
 /// The greatest length of a specification file, in bytes.
-pub(crate) const LONGEST_FILE: usize = 1_048_576;
+pub const LONGEST_FILE: usize = 1_048_576;
 
 // The statements of a file.
 fn tree_given(alloc: Global, bytes: &[u8]) -> Result<SpecTree, SpecFault>

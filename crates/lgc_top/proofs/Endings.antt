@@ -1,16 +1,23 @@
 -- How a run ends, from its answer and the put of its bytes.
-use Rattle.std.proofs.Common.{◌≡◌, ℕ, ◌<◌, length, List, [], ◌++◌, Some, None, refl, sym, ap, subst, ◌∙◌, inl, inr, arith}
-use Rattle.std.specs.Prelude.{◌⊎◌, Option, IfSome, IsSomeAnd}
+use Rattle.std.proofs.Common.{◌≡◌, ℕ, ◌<◌, length, true, List, [], ◌++◌, Some, None, Result, Ok, Err, refl, sym, ap, subst, ◌∙◌, inl, inr, arith}
+use Rattle.std.specs.Prelude.{◌⊎◌, Option, IfSome, IsSomeAnd, nat_lt}
+use Rattle.std.proofs.lemmas.Bool.Decides.{nat_tests}
 use Rattle.std.specs.Option.{option_map}
 use Rattle.std.proofs.lemmas.Grind.{common_steps}
 use Rattle.lgc_io.specs.Files.{Holds, file_at}
 use Rattle.lgc_io.specs.Sinks.{SinkState, Takes, TakesPart}
+use Rattle.lgc_spec.specs.declared.reading.TheConstants.{LONGEST_FILE}
+use Rattle.lgc_spec.specs.declared.fault.TheConstants.{FILE_TOO_LONG}
+use Rattle.lgc_spec.specs.declared.spec.Spec.{Spec}
+use Rattle.lgc_spec.specs.declared.fault.SpecFault.{SpecFault}
+use Rattle.lgc_spec.specs.declared.fault.SpecFault.TheVariants.{Fault}
+use Rattle.lgc_spec.specs.Faults.{fault_at}
+use Rattle.lgc_spec.specs.Specification.{BytesGive}
+use Rattle.lgc_spec.proofs.OneSpec.{one_answer}
 use Rattle.lgc_top.specs.declared.run.Status.{Status}
 use Rattle.lgc_top.specs.declared.run.Status.TheVariants.{Done, Usage, BadSpec, ReadFault, WriteFault, Memory}
-use Rattle.lgc_top.specs.PlainForm.{IsSpecOf, IsRefused}
-use Rattle.lgc_top.specs.declared.TheConstants.{LONGEST_FILE}
 use Rattle.lgc_top.specs.Commands.{Calculus, command_of}
-use Rattle.lgc_top.specs.Run.{Run, Ends, Answers, Puts, AfterPut, IsFaultless, HasSpec, PrintsCalculus}
+use Rattle.lgc_top.specs.Run.{Run, Ends, Answers, AsksFor, Puts, AfterPut, IsFaultless, Finds, meant_by, PrintsCalculus}
 
 -- a put of no bytes leaves a sink as it was
 pub takes_nothing : (state : SinkState) → Takes state state []
@@ -49,31 +56,36 @@ held_once : (told : Option (List (List ℕ × List ℕ))) (file spec other : Lis
 held_once None file spec other has held = absurd has
 held_once (Some files) file spec other has held = sym has ∙ held
 
--- an accepted specification isn't refused
-pub completes : (run : Run) (ended : Status) → Ends run ended → HasSpec run → IsFaultless run → (ended ≡ Done) ⊎ (ended ≡ Memory)
-completes run Done ends has none = inl refl
-completes run Memory ends has none = inr refl
-completes run Usage (bytes, (command, _), _) has none = let some : command_of run.words ≡ Some (Calculus has.file) = has.command in absurd cc
-completes run ReadFault (bytes, (file, misses, _), _) has none = absurd (none.files misses.failed.rose)
-completes run BadSpec (bytes, (spec, asked, refused, _), _) has none =
-    let here : Some (Calculus asked.file) ≡ Some (Calculus has.file) = sym asked.command ∙ has.command in
-    let file : asked.file ≡ has.file = cc in
-    let held : Holds run.files has.file spec = subst (λ f. Holds run.files f spec) file asked.held in
-    let once : Some has.spec ≡ Some spec = held_once run.files.told has.file has.spec spec has.told held in
-    let same : has.spec ≡ spec = cc in
-    absurd (refused has.logic (subst (λ s. IsSpecOf s has.logic) same has.accepted))
-completes run WriteFault (status, bytes, answers, puts) has none = absurd (rises status puts) where
-  rises : (status : Status) → Puts run status (λ old new. TakesPart old new bytes) → ⊥
-  rises Done (takes, _) = none.out takes.rose
-  rises Usage (takes, _) = none.err takes.rose
-  rises BadSpec (takes, _) = none.err takes.rose
-  rises ReadFault (takes, _) = none.err takes.rose
-  rises WriteFault (takes, _) = none.err takes.rose
-  rises Memory (takes, _) = none.err takes.rose
+-- what is answered is what the bytes give
+module _ (run : Run) (found : Result Spec SpecFault) (finds : Finds run found) (none : IsFaultless run) where
+  -- the bytes that were read are those that the files tell
+  same_found : (bytes : List ℕ) → AsksFor run bytes → (given : Result Spec SpecFault) → BytesGive bytes given → given ≡ found
+  same_found bytes asked given gives =
+      let here : Some (Calculus asked.file) ≡ Some (Calculus finds.file) = sym asked.command ∙ finds.command in
+      let file : asked.file ≡ finds.file = cc in
+      let held : Holds run.files finds.file bytes = subst (λ f. Holds run.files f bytes) file asked.held in
+      let once : Some finds.bytes ≡ Some bytes = held_once run.files.told finds.file finds.bytes bytes finds.told held in
+      let same : finds.bytes ≡ bytes = cc in
+      one_answer bytes given found gives (subst (λ b. BytesGive b found) same finds.gives)
 
--- a file that is too long is no specification
-pub refused_long : (bytes : List ℕ) → LONGEST_FILE < length bytes → IsRefused bytes
-refused_long bytes long logic spec = absurd (omega (arith, long, spec.short))
+  pub completes : (ended : Status) → Ends run ended → (ended ≡ meant_by found) ⊎ (ended ≡ Memory)
+  completes Done (text, (bytes, asked, calculus), _) = inl (ap meant_by (same_found bytes asked (Ok calculus.spec) calculus.given))
+  completes BadSpec (line, (bytes, asked, fault), _) = inl (ap meant_by (same_found bytes asked (Err (Fault fault.number fault.offset fault.kept)) fault.given))
+  completes Memory ends = inr refl
+  completes Usage (bytes, (command, _), _) = let some : command_of run.words ≡ Some (Calculus finds.file) = finds.command in absurd cc
+  completes ReadFault (bytes, (file, misses, _), _) = absurd (none.files misses.failed.rose)
+  completes WriteFault (status, bytes, answers, puts) = absurd (rises status puts) where
+    rises : (status : Status) → Puts run status (λ old new. TakesPart old new bytes) → ⊥
+    rises Done (takes, _) = none.out takes.rose
+    rises Usage (takes, _) = none.err takes.rose
+    rises BadSpec (takes, _) = none.err takes.rose
+    rises ReadFault (takes, _) = none.err takes.rose
+    rises WriteFault (takes, _) = none.err takes.rose
+    rises Memory (takes, _) = none.err takes.rose
+
+-- a file that is too long has this fault
+pub long_fault : (bytes : List ℕ) → LONGEST_FILE < length bytes → BytesGive bytes (Err (fault_at FILE_TOO_LONG LONGEST_FILE))
+long_fault bytes long = let is : nat_lt LONGEST_FILE (length bytes) ≡ true = grind (arith, nat_tests) in rw is refl
 
 -- what an empty buffer gained is all that it holds
 pub all_gained : (old new bytes : List ℕ) → old ≡ [] → new ≡ old ++ bytes → bytes ≡ new

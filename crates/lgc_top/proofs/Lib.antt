@@ -1,9 +1,5 @@
-pub mod Descriptions
 pub mod Endings
-pub mod Forms
-pub mod Readings
 pub mod RowClauses
 pub mod RowRules
 pub mod RuleLists
 pub mod TextLaws
-pub mod Tokens

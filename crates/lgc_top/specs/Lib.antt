@@ -1,7 +1,5 @@
 pub mod Text
-pub mod PlainForm
-pub mod PlainReading
-pub mod Spec
+pub mod FaultLine
 pub mod Calculus
 pub mod Commands
 pub mod Run

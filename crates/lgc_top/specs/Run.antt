@@ -1,12 +1,17 @@
 -- What a run answers, and what stands in its sinks after it.
-use Rattle.std.specs.Prelude.{◌≡◌, ◌⊎◌, ℕ, List, ◌++◌, Some, None, IsSomeAnd, codes}
-use Rattle.lgc_values.specs.Logic.{Logic}
+use Rattle.std.specs.Prelude.{◌≡◌, ◌⊎◌, ℕ, List, ◌++◌, Some, None, Result, Ok, Err, IsSomeAnd, codes}
 use Rattle.lgc_io.specs.Faults.{Rose}
 use Rattle.lgc_io.specs.Files.{FilesState, Holds, FailsAt, file_at}
 use Rattle.lgc_io.specs.Sinks.{SinkState, Takes, TakesPart}
+use Rattle.lgc_spec.specs.declared.spec.Spec.{Spec}
+use Rattle.lgc_spec.specs.declared.fault.Kept.{Kept}
+use Rattle.lgc_spec.specs.declared.fault.SpecFault.{SpecFault}
+use Rattle.lgc_spec.specs.declared.fault.SpecFault.TheVariants.{Fault}
+use Rattle.lgc_spec.specs.Logics.{logic_of}
+use Rattle.lgc_spec.specs.Specification.{BytesGive}
 use Rattle.lgc_top.specs.declared.run.Status.{Status}
 use Rattle.lgc_top.specs.declared.run.Status.TheVariants.{Done, Usage, BadSpec, ReadFault, WriteFault, Memory}
-use Rattle.lgc_top.specs.PlainForm.{IsSpecOf, IsRefused}
+use Rattle.lgc_top.specs.FaultLine.{fault_line}
 use Rattle.lgc_top.specs.Calculus.{IsCalculusText}
 use Rattle.lgc_top.specs.Commands.{Calculus, command_of}
 
@@ -35,17 +40,25 @@ pub record MissesFile (run : Run) (file : List ℕ) : Type 0 where
   pub command : command_of run.words ≡ Some (Calculus file)
   pub failed : FailsAt run.files run.files_after file
 
--- the calculus of the specification, as text
-pub record IsCalculusOf (spec text : List ℕ) : Type 0 where
-  pub logic : Logic
-  pub accepted : IsSpecOf spec logic
-  pub printed : IsCalculusText logic text
+-- the bytes of a specification give a logic, and the text is a calculus of it
+pub record IsCalculusOf (bytes text : List ℕ) : Type 0 where
+  pub spec : Spec
+  pub given : BytesGive bytes (Ok spec)
+  pub printed : IsCalculusText (logic_of spec) text
+
+-- the bytes of a specification have this first fault, and the line tells it
+pub record IsFaultOf (bytes line : List ℕ) : Type 0 where
+  pub number : ℕ
+  pub offset : ℕ
+  pub kept : Kept
+  pub given : BytesGive bytes (Err (Fault number offset kept))
+  pub told : line ≡ fault_line number offset kept
 
 -- each status with its cause, and with the bytes that are put under it
 abbrev pub Answers : Run → Status → List ℕ → Type 0
 Answers run Usage bytes = (command_of run.words ≡ None) × (bytes ≡ codes "usage: multlog COMMAND ARGUMENTS\n")
 Answers run ReadFault bytes = (file : List ℕ) × MissesFile run file × (bytes ≡ codes "read fault: " ++ file ++ codes "\n")
-Answers run BadSpec bytes = (spec : List ℕ) × AsksFor run spec × IsRefused spec × (bytes ≡ codes "spec fault 27 at 0\n")
+Answers run BadSpec bytes = (spec : List ℕ) × AsksFor run spec × IsFaultOf spec bytes
 Answers run Done bytes = (spec : List ℕ) × AsksFor run spec × IsCalculusOf spec bytes
 Answers run WriteFault bytes = ⊥
 Answers run Memory bytes = ⊥
@@ -67,14 +80,18 @@ pub record IsFaultless (run : Run) : Type 0 where
   pub out : Rose run.out.faults run.out_after.faults → ⊥
   pub err : Rose run.err.faults run.err_after.faults → ⊥
 
--- the words ask for the calculus of a file that the files tell, and it is an accepted specification
-pub record HasSpec (run : Run) : Type 0 where
+-- the words ask for the calculus of a file that the files tell, and this is what its bytes give
+pub record Finds (run : Run) (found : Result Spec SpecFault) : Type 0 where
   pub file : List ℕ
   pub command : command_of run.words ≡ Some (Calculus file)
-  pub spec : List ℕ
-  pub told : IsSomeAnd run.files.told (λ told. file_at told file ≡ Some spec)
-  pub logic : Logic
-  pub accepted : IsSpecOf spec logic
+  pub bytes : List ℕ
+  pub told : IsSomeAnd run.files.told (λ told. file_at told file ≡ Some bytes)
+  pub gives : BytesGive bytes found
+
+-- a logic is answered with Done, and a fault with BadSpec
+abbrev pub meant_by : Result Spec SpecFault → Status
+meant_by (Ok spec) = Done
+meant_by (Err fault) = BadSpec
 
 -- the output gained the calculus of the specification that the words ask for
 pub record PrintsCalculus (run : Run) : Type 0 where

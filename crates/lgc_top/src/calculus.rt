@@ -4,11 +4,11 @@ ghost use Rattle.lgc_values.specs.Values.{IsSize};
 ghost use Rattle.lgc_values.specs.Logic.{IsLogic, arguments_at};
 ghost use Rattle.lgc_values.specs.declared.TheConstants.{MOST_ROWS, MOST_ARGUMENTS};
 ghost use Rattle.lgc_top.specs.Calculus.{IsRowRule, IsRight, IsCalculusText, others_of};
-ghost use Rattle.lgc_top.specs.Spec.{logic_of};
+ghost use Rattle.lgc_spec.specs.Logics.{logic_of};
 
-use crate::spec::Spec;
 use crate::text::calculus_text;
 use lgc_clauses::{Clause, OpRule};
+use lgc_spec::{Spec, matrix_of};
 use lgc_values::{List, Matrix, ValueSet, argument_at};
 use std::alloc::{AllocError, Global};
 
@@ -73,23 +73,13 @@ fn derive_calculus<const N: usize>(
     Ok(rules)
 }
 
-fn matrix_of<const N: usize>(alloc: Global, spec: Spec) -> Matrix<N>
-    requires size { length spec.values ≡ N }
-    requires logic { IsLogic (logic_of spec) }
-    requires designated { spec.designated < 2 ^ N }
-    ensures { result ≡ logic_of spec }
+fn calculus<const N: usize>(alloc: Global, spec: &Spec) -> Result<Vec<u8>, AllocError>
+    requires size { length spec.now.values ≡ N }
+    requires logic { IsLogic (logic_of spec.now) }
+    requires designated { spec.now.designated < 2 ^ N }
+    ensures { IfOk result (λ text. IsCalculusText (logic_of spec.now) text.items) }
 {
-    let designated = ValueSet::of_mask(spec.designated);
-    Matrix::new(spec.values, designated, spec.operators, List::new(alloc))
-}
-
-fn calculus<const N: usize>(alloc: Global, spec: Spec) -> Result<Vec<u8>, AllocError>
-    requires size { length spec.values ≡ N }
-    requires logic { IsLogic (logic_of spec) }
-    requires designated { spec.designated < 2 ^ N }
-    ensures { IfOk result (λ text. IsCalculusText (logic_of spec) text.items) }
-{
-    let m: Matrix<N> = matrix_of(alloc, spec);
+    let m: Matrix<N> = matrix_of(alloc, spec)?;
     let rules = derive_calculus(alloc, &m)?;
     calculus_text(alloc, &m, rules.items())
 }
@@ -111,10 +101,10 @@ macro_rules! at_size {
 }
 
 /// The text of a calculus of the specification's logic.
-pub(crate) fn calculus_of(alloc: Global, spec: Spec) -> Result<Vec<u8>, AllocError>
-    requires logic { IsLogic (logic_of spec) }
-    requires designated { spec.designated < 2 ^ length spec.values }
-    ensures { IfOk result (λ text. IsCalculusText (logic_of spec) text.items) }
+pub(crate) fn calculus_of(alloc: Global, spec: &Spec) -> Result<Vec<u8>, AllocError>
+    requires logic { IsLogic (logic_of spec.now) }
+    requires designated { spec.now.designated < 2 ^ length spec.now.values }
+    ensures { IfOk result (λ text. IsCalculusText (logic_of spec.now) text.items) }
 {
     let size = spec.values.len();
     at_size!(size, calculus(alloc, spec))

@@ -5,22 +5,15 @@
 //! with the status [`Status::Done`] the output gains the text of a calculus of the file's logic, each
 //! rule of which is exact. `specs/Run.antt` says of every status when it comes and what is put under it.
 //!
-//! The reader of specifications (`plain`, `spec`), the rules (`calculus`) and their text (`text`) are
-//! private parts.
+//! The rules (`calculus`), their text (`text`) and the line of a fault (`fault_line`) are private parts. `lgc_spec`
+//! reads the file.
 #![tactic(auto)]
 
 mod calculus;
-mod plain;
+mod fault_line;
 mod run;
-mod spec;
 #[cfg(test)]
 mod tests;
 mod text;
 
 pub use run::{Status, exit_number, run_multlog};
-
-/// The greatest length of a specification file, in bytes.
-pub(crate) const LONGEST_FILE: usize = 1_048_576;
-
-/// The greatest number of operators of a specification.
-pub(crate) const MOST_OPERATORS: usize = 64;

@@ -1,19 +1,25 @@
 // The top call.
-ghost use Rattle.std.specs.Prelude.{◌≡◌, ◌⊎◌, ◌++◌, ℕ, List, Some, None, codes, map, string_bytes, IfOk, IsErrOf};
+ghost use Rattle.std.specs.Prelude.{◌≡◌, ◌⊎◌, ◌++◌, ℕ, List, Result, Some, None, codes, map, string_bytes};
 ghost use Rattle.std.specs.Option.{option_copied, option_map};
 ghost use Rattle.lgc_io.specs.Files.{FilesState};
-ghost use Rattle.lgc_top.specs.PlainForm.{IsRefused};
+ghost use Rattle.lgc_spec.specs.declared.spec.Spec.{Spec};
+ghost use Rattle.lgc_spec.specs.declared.fault.SpecFault.{SpecFault};
+ghost use Rattle.lgc_spec.specs.declared.fault.Kept.TheVariants.{Nothing};
+ghost use Rattle.lgc_spec.specs.declared.fault.TheConstants.{FILE_TOO_LONG};
+ghost use Rattle.lgc_spec.specs.declared.reading.TheConstants.{LONGEST_FILE};
+ghost use Rattle.lgc_spec.specs.Logics.{logic_of};
+ghost use Rattle.lgc_spec.specs.Stands.{AnswersFor};
+ghost use Rattle.lgc_spec.specs.Specification.{BytesGive};
+ghost use Rattle.lgc_top.specs.FaultLine.{fault_line};
+ghost use Rattle.lgc_top.specs.Calculus.{IsCalculusText};
 ghost use Rattle.lgc_top.specs.Commands.{Calculus, command_of};
-ghost use Rattle.lgc_top.specs.Run.{run_of, Ends, AsksFor, IsFaultless, HasSpec, PrintsCalculus, IsCalculusOf, AfterPut, number_of};
+ghost use Rattle.lgc_top.specs.Run.{run_of, Ends, AsksFor, IsFaultless, Finds, meant_by, PrintsCalculus, AfterPut, number_of};
 
-use crate::LONGEST_FILE;
 use crate::calculus::calculus_of;
-use crate::spec::{SpecFault, read_spec};
+use crate::fault_line::fault_line;
 use lgc_io::{FileFault, Files, Reading, Sink, SinkFault};
+use lgc_spec::{FILE_TOO_LONG, Kept, LONGEST_FILE, SpecFault, read_spec};
 use std::alloc::Global;
-
-// The line of the one fault that a specification has so far.
-const SPEC_FAULT: &[u8] = b"spec fault 27 at 0\n";
 
 /// How a run ended.
 #[derive(Clone, Copy, Debug, PartialEq, Eq)]
@@ -77,15 +83,35 @@ fn put_all<K: Sink>(sink: &mut K, bytes: &[u8], status: Status) -> Status
     }
 }
 
-// What a specification has to say, or the status under which the run ends without it.
-fn calculus_text_of(alloc: Global, bytes: &[u8]) -> Result<Vec<u8>, SpecFault>
-    ensures text { IfOk result (λ text. IsCalculusOf bytes.now text.items) }
-    ensures refused { IsErrOf result SpecFault.NotBuilt → IsRefused bytes.now }
+// Puts the line of a fault.
+fn put_fault<E: Sink>(alloc: Global, number: u8, offset: u32, kept: &Kept, err: &mut E) -> Status
+    ensures { AfterPut (E.state err.old) (E.state err.new) (fault_line number offset kept.now) Status.BadSpec result }
 {
-    match read_spec(alloc, bytes) {
-        Ok(spec) => calculus_of(alloc, spec).map_err(|_| SpecFault::Memory),
-        Err(fault) => Err(fault),
+    match fault_line(alloc, number, offset, kept) {
+        Ok(line) => put_all(err, &line, Status::BadSpec),
+        Err(_) => Status::Memory,
     }
+}
+
+// Puts the fault of a file that is too long.
+fn put_too_long<E: Sink>(alloc: Global, err: &mut E) -> Status
+    ensures { AfterPut (E.state err.old) (E.state err.new) (fault_line FILE_TOO_LONG LONGEST_FILE Nothing) Status.BadSpec result }
+{
+    put_fault(
+        alloc,
+        FILE_TOO_LONG,
+        LONGEST_FILE as u32,
+        &Kept::Nothing,
+        err,
+    )
+}
+
+// The calculus of a specification, or its first fault.
+fn calculus_given(alloc: Global, bytes: &[u8]) -> Result<Vec<u8>, SpecFault>
+    ensures { AnswersFor (λ text spec. IsCalculusText (logic_of spec) text.items) (BytesGive bytes.now) result }
+{
+    let spec = read_spec(alloc, bytes)?;
+    Ok(calculus_of(alloc, &spec)?)
 }
 
 // Puts the calculus of a specification, or its fault.
@@ -94,9 +120,15 @@ fn put_calculus<O: Sink, E: Sink>(alloc: Global, bytes: &[u8], out: &mut O, err:
         let run = run_of words files files_after (O.state out.old) (O.state out.new) (E.state err.old) (E.state err.new) in
         AsksFor run bytes.now → Ends run result }
 {
-    match calculus_text_of(alloc, bytes) {
+    match calculus_given(alloc, bytes) {
         Ok(text) => put_all(out, &text, Status::Done),
-        Err(SpecFault::NotBuilt) => put_all(err, SPEC_FAULT, Status::BadSpec),
+        Err(
+            SpecFault::Fault {
+                number,
+                offset,
+                kept,
+            },
+        ) => put_fault(alloc, number, offset, &kept, err),
         Err(SpecFault::Memory) => Status::Memory,
     }
 }
@@ -115,7 +147,7 @@ fn run_calculus<F: Files, O: Sink, E: Sink>(
     let mut bytes = Vec::new(alloc);
     match files.read_file(name, LONGEST_FILE, &mut bytes) {
         Ok(Reading::Whole) => put_calculus(alloc, &bytes, out, err),
-        Ok(Reading::TooLong) => put_all(err, SPEC_FAULT, Status::BadSpec),
+        Ok(Reading::TooLong) => put_too_long(alloc, err),
         Err(FileFault::Failed) => put_read_fault(alloc, name, err),
         Err(FileFault::Memory) => Status::Memory,
     }
@@ -165,9 +197,10 @@ pub fn run_multlog<F: Files, O: Sink, E: Sink>(
     // With `Done` the output gained the text of a calculus, each rule of which is exact.
     ensures calculus { result ≡ Status.Done → PrintsCalculus (run_of (map string_bytes words.now) (F.state files.old) (F.state files.new) (O.state out.old) (O.state out.new) (E.state err.old) (E.state err.new)) }
 
-    // An accepted specification has its calculus printed, unless something fails or memory runs out.
+    // Where the files tell the specification, its logic is answered with `Done`, and its fault with `BadSpec`, unless
+    // something fails or memory runs out.
     ensures complete { let run = run_of (map string_bytes words.now) (F.state files.old) (F.state files.new) (O.state out.old) (O.state out.new) (E.state err.old) (E.state err.new) in
-        HasSpec run → IsFaultless run → (result ≡ Status.Done) ⊎ (result ≡ Status.Memory) }
+        (found : Result Spec SpecFault) → Finds run found → IsFaultless run → (result ≡ meant_by found) ⊎ (result ≡ Status.Memory) }
 {
     run_words(alloc, words, files, out, err)
 }

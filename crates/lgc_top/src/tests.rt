@@ -9,8 +9,10 @@ const TWO: &str = "truth_values {f,t}. designated_truth_values {t}. ";
 
 const THREE: &str = "truth_values {f,u,t}. designated_truth_values {t}. ";
 
-/// Two statements, and the rules that are printed for them.
-const ACCEPTED: [(&str, &str, &str); 12] = [
+const FOUR: &str = "truth_values {a,b,c,d}. designated_truth_values {d}. ";
+
+/// The head and the rest of a specification, and the rules that are printed for it.
+const ACCEPTED: [(&str, &str, &str); 17] = [
     (TWO, "", ""),
     (
         TWO,
@@ -67,61 +69,196 @@ const ACCEPTED: [(&str, &str, &str); 12] = [
         "operator(q/1, mapping {(a):b,(b):b,(c):b,(d):a}).",
         "rule 1: operator q/1 at {a}: [1^{a,b,d}; 1^{a,c,d}; 1^{b,c,d}].\nrule 2: operator q/1 at {b}: [1^{a,b,c}].\nrule 3: operator q/1 at {c}: [1^{a,b,c}; 1^{a,b,d}; 1^{a,c,d}; 1^{b,c,d}].\nrule 4: operator q/1 at {d}: [1^{a,b,c}; 1^{a,b,d}; 1^{a,c,d}; 1^{b,c,d}].\n",
     ),
+    (
+        THREE,
+        "operator(top/0, mapping {():t}).",
+        "rule 1: operator top/0 at {f}: [0].\nrule 2: operator top/0 at {u}: [0].\nrule 3: operator top/0 at {t}: [].\n",
+    ),
+    (
+        "",
+        "% Lukasiewicz 3\nlogic \"Lukasiewicz 3\".\ntruth_values {f,u,t}.\ndesignated_truth_values {t}.\nordering(linear, \"f < u < t\").\noperator(neg/1, mapping {(f):t, (u):u, (t):f}).\noperator(and/2, inf(linear)).\noperator(or/2, sup(linear)).\noperator(imp/2, table [\n      f, u, t,\n  f,  t, t, t,\n  u,  u, t, t,\n  t,  f, u, t]).\n",
+        "rule 1: operator neg/1 at {f}: [1^{f,t}; 1^{u,t}].\nrule 2: operator neg/1 at {u}: [1^{f,u}; 1^{u,t}].\nrule 3: operator neg/1 at {t}: [1^{f,u}; 1^{f,t}].\nrule 4: operator and/2 at {f}: [1^{f,u}, 2^{f,u}; 1^{f,u}, 2^{f,t}; 1^{f,t}, 2^{f,u}; 1^{f,t}, 2^{f,t}].\nrule 5: operator and/2 at {u}: [1^{f,u}, 2^{f,u}; 1^{f,u}, 2^{u,t}; 1^{f,t}, 2^{u,t}; 1^{u,t}, 2^{f,u}; 1^{u,t}, 2^{f,t}; 1^{u,t}, 2^{u,t}].\nrule 6: operator and/2 at {t}: [1^{f,u}, 2^{f,t}; 1^{f,u}, 2^{u,t}; 1^{f,t}, 2^{f,u}; 1^{f,t}, 2^{f,t}; 1^{f,t}, 2^{u,t}; 1^{u,t}, 2^{f,u}; 1^{u,t}, 2^{f,t}; 1^{u,t}, 2^{u,t}].\nrule 7: operator or/2 at {f}: [1^{f,u}, 2^{f,u}; 1^{f,u}, 2^{f,t}; 1^{f,u}, 2^{u,t}; 1^{f,t}, 2^{f,u}; 1^{f,t}, 2^{f,t}; 1^{f,t}, 2^{u,t}; 1^{u,t}, 2^{f,u}; 1^{u,t}, 2^{f,t}].\nrule 8: operator or/2 at {u}: [1^{f,u}, 2^{f,u}; 1^{f,u}, 2^{f,t}; 1^{f,u}, 2^{u,t}; 1^{f,t}, 2^{f,u}; 1^{u,t}, 2^{f,u}; 1^{u,t}, 2^{u,t}].\nrule 9: operator or/2 at {t}: [1^{f,t}, 2^{f,t}; 1^{f,t}, 2^{u,t}; 1^{u,t}, 2^{f,t}; 1^{u,t}, 2^{u,t}].\nrule 10: operator imp/2 at {f}: [1^{f,u}, 2^{f,u}; 1^{f,u}, 2^{f,t}; 1^{f,t}, 2^{f,u}; 1^{f,t}, 2^{f,t}; 1^{f,t}, 2^{u,t}; 1^{u,t}, 2^{f,u}; 1^{u,t}, 2^{f,t}; 1^{u,t}, 2^{u,t}].\nrule 11: operator imp/2 at {u}: [1^{f,u}, 2^{f,u}; 1^{f,u}, 2^{u,t}; 1^{f,t}, 2^{f,u}; 1^{f,t}, 2^{f,t}; 1^{u,t}, 2^{f,u}; 1^{u,t}, 2^{f,t}; 1^{u,t}, 2^{u,t}].\nrule 12: operator imp/2 at {t}: [1^{f,u}, 2^{f,t}; 1^{f,u}, 2^{u,t}; 1^{f,t}, 2^{u,t}].\n",
+    ),
+    (
+        THREE,
+        "operator(imp/2, table [ t,u,f, t, t,u,f, u, t,t,u, f, t,t,t ]).",
+        "rule 1: operator imp/2 at {f}: [1^{f,u}, 2^{f,u}; 1^{f,u}, 2^{f,t}; 1^{f,t}, 2^{f,u}; 1^{f,t}, 2^{f,t}; 1^{f,t}, 2^{u,t}; 1^{u,t}, 2^{f,u}; 1^{u,t}, 2^{f,t}; 1^{u,t}, 2^{u,t}].\nrule 2: operator imp/2 at {u}: [1^{f,u}, 2^{f,u}; 1^{f,u}, 2^{u,t}; 1^{f,t}, 2^{f,u}; 1^{f,t}, 2^{f,t}; 1^{u,t}, 2^{f,u}; 1^{u,t}, 2^{f,t}; 1^{u,t}, 2^{u,t}].\nrule 3: operator imp/2 at {t}: [1^{f,u}, 2^{f,t}; 1^{f,u}, 2^{u,t}; 1^{f,t}, 2^{u,t}].\n",
+    ),
+    (
+        "",
+        "operator(~/01, mapping ['a b':B, B:'a b']). operator('and'/2, inf(<)). designated_truth_values ['a b',B,'B']./* last */ truth_values {'a b',B}. ordering('<', \"'a b'<B\"). logic Quoted.",
+        "rule 1: operator '~'/1 at {'a b'}: [1^{B}].\nrule 2: operator '~'/1 at {B}: [1^{'a b'}].\nrule 3: operator and/2 at {'a b'}: [1^{'a b'}, 2^{'a b'}].\nrule 4: operator and/2 at {B}: [1^{'a b'}, 2^{B}; 1^{B}, 2^{'a b'}; 1^{B}, 2^{B}].\n",
+    ),
+    (
+        "",
+        "truth_values [1,+].designated_truth_values {}.operator(k/2,table{+ 1 1 + 1 + + 1}).",
+        "rule 1: operator k/2 at {1}: [1^{1}, 2^{1}; 1^{'+'}, 2^{1}].\nrule 2: operator k/2 at {'+'}: [1^{1}, 2^{'+'}; 1^{'+'}, 2^{'+'}].\n",
+    ),
 ];
 
-/// Two statements that are no specification in the plain form.
-const REFUSED: [(&str, &str); 43] = [
-    ("", ""),
-    (" \n", ""),
-    (TWO, "operator(top/0, mapping {():t})."),
+/// The head and the rest of a file, and its first fault: the number, the offset and what the line keeps.
+const FAULTS: [(&str, &str, &str); 86] = [
+    (TWO, "`", "1 at 49"),
+    (TWO, "a\u{e9}", "1 at 50"),
+    (TWO, "% \u{e9} `\n\x7f", "1 at 56"),
+    (TWO, "\x00", "1 at 49"),
+    (TWO, "/* \u{e9} */ 'a\tb'", "1 at 60"),
+    (TWO, "''", "1 at 50"),
+    (TWO, "'a\n", "1 at 51"),
+    (TWO, "'a", "2 at 49"),
+    (TWO, "\"a'", "2 at 49"),
+    (TWO, "/* * /", "2 at 49"),
+    (TWO, "/*/", "2 at 49"),
+    (TWO, "` '", "1 at 49"),
+    (TWO, "\" `", "2 at 49"),
+    ("", "truth_values {f,", "3 at 16"),
+    ("", "truth_values {,", "3 at 14"),
+    ("", "truth_values {f,t].", "3 at 17"),
+    ("", "truth_values {f t}.", "3 at 16"),
+    ("", "truth_values {f,t}", "3 at 18"),
+    ("", "values {f,t}.", "3 at 0"),
+    ("", "logic 3.", "3 at 6"),
+    (TWO, ".", "3 at 49"),
+    (TWO, "operator(Neg/1, mapping {(f):t, (t):f}).", "3 at 58"),
+    (TWO, "operator(neg/1a, mapping {(f):t, (t):f}).", "3 at 62"),
+    (TWO, "operator(neg/1, list {(f):t, (t):f}).", "3 at 65"),
+    (TWO, "operator(neg/1, mapping {(f):t, (t:f}).", "3 at 83"),
+    (TWO, "operator(neg/1, mapping {(f):t, }).", "3 at 81"),
+    (TWO, "operator(k/2, table [f,,t]).", "3 at 72"),
+    (TWO, "operator(k/2, inf o).", "3 at 67"),
+    (TWO, "ordering(o, o).", "3 at 61"),
+    (TWO, "quantifier(q, table []).", "3 at 63"),
+    ("", "truth_values {f,} `", "1 at 18"),
+    ("", "logic a. logic b. truth_values {a}.", "4 at 9"),
+    ("", "truth_values {a}. truth_values {a}.", "4 at 18"),
     (
-        "truth_values {a,b,c,d,e,f,g,h,i}. ",
-        "designated_truth_values {a}.",
+        "",
+        "designated_truth_values []. logic a. designated_truth_values {}. logic a.",
+        "4 at 37",
     ),
-    ("truth_values {a}. ", "designated_truth_values {a}."),
-    ("truth_values {}. ", "designated_truth_values {}."),
-    ("truth_values {f,", ""),
-    ("truth_values {f,t}", ""),
-    ("truth_values {f,t}.", ""),
-    ("truth_values {f,t}. ", "designated_truth_values {t}"),
-    ("truth_values {f,f}. ", "designated_truth_values {f}."),
-    ("truth_values {f,t,f}. ", "designated_truth_values {f}."),
-    ("truth_values {f,t}. ", "designated_truth_values {u}."),
-    ("truth_values {f,t,}. ", "designated_truth_values {t}."),
-    ("truth_values {f t}. ", "designated_truth_values {t}."),
-    ("truth_values [f,t]. ", "designated_truth_values {t}."),
-    ("truth_values {F,t}. ", "designated_truth_values {t}."),
-    ("truth_values {_f,t}. ", "designated_truth_values {t}."),
-    ("truth_values {0,t}. ", "designated_truth_values {t}."),
-    ("truth_values {'f',t}. ", "designated_truth_values {t}."),
-    ("truth_values {f,\u{e9}}. ", "designated_truth_values {f}."),
-    ("designated_truth_values {t}. ", "truth_values {f,t}."),
-    ("logic \"Two\". ", TWO),
-    ("% two values\n", TWO),
-    (TWO, "/* none */"),
-    (TWO, "ordering(o, \"f < t\")."),
-    (TWO, "operator(neg/1, mapping {(f):t, (t):f})"),
-    (TWO, "operator(neg/1, mapping {(f):t, (t):f}). ."),
-    (TWO, "operator(neg/1, mapping {(f):t, (t):f}). x"),
-    (TWO, "operator(neg/1, mapping {f:t, t:f})."),
-    (TWO, "operator(neg/1, mapping [(f):t, (t):f])."),
-    (TWO, "operator(neg/01, mapping {(f):t, (t):f})."),
-    (TWO, "operator(neg/1a, mapping {(f):t, (t):f})."),
+    ("", "", "5 at 0"),
+    ("", "truth_values {a,a}.", "5 at 19"),
+    ("", "designated_truth_values {a}. ", "5 at 29"),
+    (
+        "",
+        "truth_values {a}. designated_truth_values {a}.",
+        "6 at 0",
+    ),
+    (
+        "",
+        "designated_truth_values {}. truth_values [].",
+        "6 at 28",
+    ),
+    (
+        "",
+        "truth_values {a,b,c,d,e,f,g,h,i}. designated_truth_values {a}.",
+        "7 at 30",
+    ),
+    (
+        "",
+        "truth_values {a,a,a,a,a,a,a,a,a,a}. designated_truth_values {a}.",
+        "7 at 30",
+    ),
+    (
+        "",
+        "truth_values {a,b,'a',b}. designated_truth_values {c}.",
+        "8 at 18",
+    ),
+    (
+        "",
+        "designated_truth_values {b,c,d}. truth_values {a,b}. ordering(o, \"`\").",
+        "9 at 27",
+    ),
+    (TWO, "ordering(o, \"\"). ordering('o', \"`\").", "10 at 75"),
+    (TWO, "ordering(o, \"f < `\").", "1 at 66"),
+    (TWO, "ordering(o, \"f < 't \u{e9}\").", "1 at 69"),
+    (TWO, "ordering(o, \"f < 't\").", "2 at 66"),
+    (TWO, "ordering(o, \"f /* < t\").", "2 at 64"),
+    (TWO, "ordering(o, \"f <\").", "3 at 65"),
+    (TWO, "ordering(o, \"f < {}\").", "3 at 67"),
+    (TWO, "ordering(o, \"f t\").", "3 at 64"),
+    (TWO, "ordering(o, \"f <= t\").", "3 at 64"),
+    (TWO, "ordering(o, \"f < t,\").", "3 at 68"),
+    (TWO, "ordering(o, \"f < {t,u} < v\").", "9 at 69"),
+    (
+        "",
+        "truth_values {f,u}. designated_truth_values {u}. ordering(o, \"f < u, u < f\").",
+        "19 at 61: (f,u)",
+    ),
+    (
+        THREE,
+        "ordering(o, \"u < t, t < f < t\").",
+        "19 at 63: (f,t)",
+    ),
+    (
+        "",
+        "truth_values {'a b',B,0}. designated_truth_values {}. ordering(o, \"'a b' < B < 0 < 'a b'\").",
+        "19 at 66: ('a b',B)",
+    ),
     (
         TWO,
-        "operator(neg/2, mapping {(f,f):t, (f,t):t, (t,f):t, (t,t):t}).",
+        "operator(k/0, mapping {():t}). operator('k'/9, mapping {}).",
+        "10 at 89",
     ),
-    (TWO, "operator(Neg/1, mapping {(f):t, (t):f})."),
-    (TWO, "operator('neg'/1, mapping {(f):t, (t):f})."),
-    (TWO, "operator(neg/1, mapping {(f):t, (f):t})."),
-    (TWO, "operator(neg/1, mapping {(f):t, (t):f, (f):t})."),
-    (TWO, "operator(neg/1, mapping {(f):t})."),
-    (TWO, "operator(neg/1, mapping {})."),
-    (TWO, "operator(neg/1, mapping {(f):t, (u):f})."),
-    (TWO, "operator(neg/1, mapping {(f):u, (t):f})."),
+    (TWO, "operator(k/5, mapping {}).", "11 at 60"),
     (
         TWO,
-        "operator(a/1, mapping {(f):f,(t):t}). operator(a/1, mapping {(f):f,(t):t}).",
+        "operator(k/0000000000000000000000000099, mapping {}).",
+        "11 at 60",
+    ),
+    (TWO, "operator(k/2, mapping {(t,f,t):t}).", "13 at 72"),
+    (TWO, "operator(k/2, mapping {t:u}).", "13 at 72"),
+    (TWO, "operator(k/0, mapping {t:t}).", "13 at 72"),
+    (TWO, "operator(k/1, mapping {f:t, ():v}).", "13 at 77"),
+    (TWO, "operator(k/1, mapping {f:t, (u):v}).", "9 at 78"),
+    (TWO, "operator(k/1, mapping {f:t, f:v}).", "9 at 79"),
+    (TWO, "operator(neg/1, mapping {(f):t, (f):t}).", "14 at 81"),
+    (TWO, "operator(k/0, mapping {():t, ():t}).", "14 at 78"),
+    (TWO, "operator(neg/1, mapping {(f):t}).", "15 at 79: (t)"),
+    (TWO, "operator(c/0, mapping []).", "15 at 72: ()"),
+    (
+        TWO,
+        "operator(k/2, mapping {(t,t):t,(f,f):t}).",
+        "15 at 87: (f,t)",
+    ),
+    (
+        "",
+        "truth_values {+,b_1}. designated_truth_values {+}. operator(k/3, mapping {(+,+,+):+,(+,+,b_1):+}).",
+        "15 at 95: ('+',b_1,'+')",
+    ),
+    (TWO, "operator(k/1, table [f,t, f,t,t, t,f,t]).", "16 at 63"),
+    (TWO, "operator(k/2, table [f,t, f,t,t, t,f]).", "16 at 63"),
+    (TWO, "operator(k/2, table {}).", "16 at 63"),
+    (TWO, "operator(k/2, table [f,f, f,t,t, f,u,t]).", "9 at 84"),
+    (TWO, "operator(k/2, table [f,f, f,t,t, f,t,t]).", "17 at 72"),
+    (TWO, "operator(k/2, table [f,t, f,t,t, f,t,t]).", "17 at 82"),
+    (TWO, "operator(k/1, inf(o)).", "16 at 63"),
+    (TWO, "operator(k/3, sup(o)).", "16 at 63"),
+    (TWO, "operator(k/2, sup( o)).", "18 at 68"),
+    (
+        FOUR,
+        "ordering(o, \"a < c, a < d, b < c, b < d\"). operator(j/2, sup(o)).",
+        "20 at 110: (a,b)",
+    ),
+    (
+        FOUR,
+        "ordering(o, \"a < c, a < d, b < c, b < d\"). operator(j/2, inf(o)).",
+        "20 at 110: (a,b)",
+    ),
+    (
+        FOUR,
+        "ordering(o, \"{a,b,c} < d\"). operator(j/2, inf('o')).",
+        "20 at 95: (a,b)",
+    ),
+    (
+        TWO,
+        "quantifier(q, mapping {}). quantifier(r, mapping {}).",
+        "27 at 60",
+    ),
+    (
+        "",
+        "quantifier(q, mapping {}). truth_values {f,t}. designated_truth_values {t}. operator(k/7, mapping {}).",
+        "11 at 87",
     ),
 ];
 
@@ -147,7 +284,7 @@ const RULES: &[u8] =
 
 const USAGE: &[u8] = b"usage: multlog COMMAND ARGUMENTS\n";
 
-const SPEC_FAULT: &[u8] = b"spec fault 27 at 0\n";
+const EMPTY_FAULT: &[u8] = b"spec fault 5 at 0\n";
 
 /// What a run left: its status, and the sinks.
 #[derive(Drop)]
@@ -207,23 +344,24 @@ fn prints_the_rules_of_accepted_files(rt: HostRuntime) -> Result<(), Fail> {
 }
 
 #[test]
-fn refuses_all_other_files(rt: HostRuntime) -> Result<(), Fail> {
-    for (head, rest) in REFUSED {
+fn tells_the_first_fault_of_other_files(rt: HostRuntime) -> Result<(), Fail> {
+    for (head, rest, fault) in FAULTS {
         let left = calculus(rt.alloc(), head, rest)?;
+        let line = format!(in rt.alloc(); "spec fault {fault}\n")?;
         assert!(rt; left.status == Status::BadSpec, "{head}{rest}");
         assert!(rt; left.out.bytes().is_empty(), "{head}{rest}");
-        assert!(rt; left.err.bytes() == SPEC_FAULT, "{head}{rest}");
+        assert!(rt; left.err.bytes() == line.as_bytes(), "{head}{rest}");
     }
     Ok(())
 }
 
 #[test]
 fn counts_bytes_and_operators(rt: HostRuntime) -> Result<(), Fail> {
-    for (operators, blanks, status) in [
-        (64, 0, Status::Done),
-        (65, 0, Status::BadSpec),
-        (1, 1_048_576, Status::Done),
-        (1, 1_048_577, Status::BadSpec),
+    for (operators, blanks, err) in [
+        (64, 0, ""),
+        (65, 0, "spec fault 12 at 2544\n"),
+        (1, 1_048_576, ""),
+        (1, 1_048_577, "spec fault 26 at 1048576\n"),
     ] {
         let mut spec = String::from_str(rt.alloc(), TWO)?;
         for i in 0..operators {
@@ -234,7 +372,7 @@ fn counts_bytes_and_operators(rt: HostRuntime) -> Result<(), Fail> {
         }
         let left = calculus(rt.alloc(), spec.as_str(), "")?;
         assert!(rt;
-            left.status == status,
+            left.err.bytes() == err.as_bytes(),
             "{operators} operators, {blanks} bytes"
         );
     }
@@ -286,7 +424,7 @@ fn tells_failed_reads(rt: HostRuntime) -> Result<(), Fail> {
 fn tells_failed_puts(rt: HostRuntime) -> Result<(), Fail> {
     for (words, spec, out, err) in [
         (CALCULUS, NEGATION, RULES, b"".as_slice()),
-        (CALCULUS, b"".as_slice(), b"".as_slice(), SPEC_FAULT),
+        (CALCULUS, b"".as_slice(), b"".as_slice(), EMPTY_FAULT),
         (&[], b"".as_slice(), b"".as_slice(), USAGE),
     ] {
         for room in [0usize, 1, 10] {

@@ -11,7 +11,7 @@ use lgc_clauses::{Clause, OpRule};
 use lgc_values::{Matrix, Name, Operator, ValueSet};
 use std::alloc::{AllocError, Global};
 
-pub(crate) fn is_word_byte(byte: u8) -> bool
+fn is_word_byte(byte: u8) -> bool
     ensures { result ≡ is_word_byte byte }
 {
     byte.is_ascii_alphanumeric() || byte == b'_'
@@ -23,7 +23,7 @@ fn has_word_bytes(name: &[u8]) -> bool
     name.iter().all(|b| is_word_byte(*b))
 }
 
-pub(crate) fn is_lower_word(name: &[u8]) -> bool
+fn is_lower_word(name: &[u8]) -> bool
     ensures { result ≡ is_lower_word name.now }
 {
     match name.split_first() {
@@ -41,7 +41,8 @@ fn put_quoted(name: &[u8], into: &mut Vec<u8>) -> Result<(), AllocError>
     Ok(())
 }
 
-fn put_value(name: &[u8], into: &mut Vec<u8>) -> Result<(), AllocError>
+/// Puts the name of a truth value.
+pub(crate) fn put_value(name: &[u8], into: &mut Vec<u8>) -> Result<(), AllocError>
     ensures { OnOk result (into.new.items ≡ into.old.items ++ value_text name.now) }
 {
     if has_word_bytes(name) {
@@ -61,7 +62,8 @@ fn put_symbol(name: &[u8], into: &mut Vec<u8>) -> Result<(), AllocError>
     }
 }
 
-fn put_number(alloc: Global, number: u32, into: &mut Vec<u8>) -> Result<(), AllocError>
+/// Puts a number in decimal digits.
+pub(crate) fn put_number(alloc: Global, number: u32, into: &mut Vec<u8>) -> Result<(), AllocError>
     ensures { OnOk result (into.new.items ≡ into.old.items ++ decimal number) }
 {
     let digits = format!(in alloc; "{number}")?;

@@ -1,9 +1,12 @@
 use Rattle.std.proofs.Common.{◌≡◌, ◌++◌, List, ℕ, refl, subst, ap, ◌∙◌}
 use Rattle.std.specs.Prelude.{codes, Ok, Err}
 use Rattle.lgc_io.specs.Files.{GainsFile, IsLonger, Holds}
-use Rattle.lgc_top.specs.declared.TheConstants.{LONGEST_FILE}
+use Rattle.lgc_spec.specs.declared.reading.TheConstants.{LONGEST_FILE}
+use Rattle.lgc_spec.specs.declared.fault.TheConstants.{FILE_TOO_LONG}
+use Rattle.lgc_spec.specs.declared.fault.Kept.TheVariants.{Nothing}
+use Rattle.lgc_top.specs.FaultLine.{fault_line}
 use Rattle.lgc_top.specs.Run.{Run, run_of, AsksFor}
-use Rattle.lgc_top.proofs.Endings.{bad_spec_ends, read_fault_ends, refused_long, all_gained}
+use Rattle.lgc_top.proofs.Endings.{bad_spec_ends, read_fault_ends, long_fault, all_gained}
 use Rattle.lgc_top.proofs.run.run_calculus.Goals as goal
 
 pub returns-in-Ok-Whole : goal.returns-in-Ok-Whole
@@ -16,9 +19,9 @@ returns-in-Ok-Whole g c words command =
 pub returns-in-Ok-TooLong : goal.returns-in-Ok-TooLong
 returns-in-Ok-TooLong g c words command =
     let longer : IsLonger (g.F.Files.state c.args.files.now) c.args.name.now LONGEST_FILE = c.read_file.ensures.long (c.in-Ok-TooLong.is ∙ ap Ok c.in-Ok-TooLong.field-0-is) in
-    let run : Run = run_of words (g.F.Files.state c.args.files.now) (g.F.Files.state c.read_file.new.self) (g.O.Sink.state c.args.out.now) (g.O.Sink.state c.args.out.now) (g.E.Sink.state c.args.err.now) (g.E.Sink.state c.put_all.new.sink) in
+    let run : Run = run_of words (g.F.Files.state c.args.files.now) (g.F.Files.state c.read_file.new.self) (g.O.Sink.state c.args.out.now) (g.O.Sink.state c.args.out.now) (g.E.Sink.state c.args.err.now) (g.E.Sink.state c.put_too_long.new.err) in
     let asked : AsksFor run longer.bytes = record { file = c.args.name.now; command = command; held = longer.held } in
-    bad_spec_ends run (codes "spec fault 27 at 0\n") c.put_all.result (longer.bytes, asked, refused_long longer.bytes longer.long, refl) c.put_all.ensures refl
+    bad_spec_ends run (fault_line FILE_TOO_LONG LONGEST_FILE Nothing) c.put_too_long.result (longer.bytes, asked, record { number = FILE_TOO_LONG; offset = LONGEST_FILE; kept = Nothing; given = long_fault longer.bytes longer.long; told = refl }) c.put_too_long.ensures refl
 
 pub returns-in-Err-Failed : goal.returns-in-Err-Failed
 returns-in-Err-Failed g c words command =

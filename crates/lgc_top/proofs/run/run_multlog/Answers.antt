@@ -5,4 +5,4 @@ pub returns-clause-calculus : goal.returns-clause-calculus
 returns-clause-calculus g c = prints_calculus _ _ c.run_words.ensures
 
 pub returns-clause-complete : goal.returns-clause-complete
-returns-clause-complete g c = completes _ _ c.run_words.ensures
+returns-clause-complete g c found finds none = completes _ found finds none _ c.run_words.ensures
