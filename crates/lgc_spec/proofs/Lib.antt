@@ -24,4 +24,5 @@ pub mod OrderingTurns
 pub mod LogicShapes
 pub mod OperatorShapes
 pub mod ReadingSteps
+pub mod PlainNames
 pub mod WholeLogic

@@ -16,4 +16,4 @@ returns-clause-answer c =
     tree_told c.args.bytes.now tree.0 _ c.if-bytes-gt-LONGEST_FILE.false tree.2 (rw same at c.logic_given.ensures.answer)
 
 pub returns-clause-logic : goal.returns-clause-logic
-returns-clause-logic c = logic_told c.args.bytes.now c.items.result.now c.logic_given.result c.logic_given.ensures.answer
+returns-clause-logic c = logic_told c.args.bytes.now c.items.result.now c.logic_given.result (rw c.items.ensures c.in_ok-tree.ensures.plain) c.logic_given.ensures.answer
