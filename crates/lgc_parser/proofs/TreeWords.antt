@@ -1,36 +1,54 @@
 -- What holds of the words of all tokens holds of the words of a tree.
-use Rattle.std.proofs.Common.{◌≡◌, ℕ, Bool, List, [], ◌∷◌, ◌++◌, All, refl, sym, ◌∙◌, append_assoc, arith}
+use Rattle.std.proofs.Common.{◌≡◌, ℕ, Bool, true, List, [], ◌∷◌, ◌++◌, All, refl, sym, ◌∙◌, append_assoc, arith}
 use Rattle.std.specs.List.{AllByRecursion}
 use Rattle.std.proofs.lemmas.List.Elements.{All-nil, All-cons}
-use Rattle.lgc_grammar.specs.Grammar.{Grammar, One, Mapped, Then, Separated, Optional}
+use Rattle.lgc_grammar.specs.Grammar.{Grammar, One, Mapped, Optional}
 use Rattle.lgc_lexer.specs.declared.token.Token.{Token}
 use Rattle.lgc_lexer.specs.Spans.{AllIn}
 use Rattle.lgc_parser.specs.declared.tree.Word.{Word}
 use Rattle.lgc_parser.specs.declared.tree.Row.{Row}
 use Rattle.lgc_parser.specs.declared.tree.OpBody.TheVariants as op
 use Rattle.lgc_parser.specs.declared.tree.QuantBody.TheVariants as quant
+use Rattle.lgc_parser.specs.declared.tree.Statement.{Statement}
 use Rattle.lgc_parser.specs.declared.tree.Statement.TheVariants as statement
-use Rattle.lgc_parser.specs.declared.class.Class.TheVariants.{LogicWord, ValuesWord, DesignatedWord, OrderingWord, OperatorWord, QuantifierWord, MappingWord, TableWord, InducedWord, InfWord, Number, Text, Less, OpenRound, CloseRound, OpenBrace, CloseBrace, OpenSquare, CloseSquare, Comma, Dot, Colon, Slash}
-use Rattle.lgc_parser.specs.Spelled.{Spelled, spelled_all, word_of, place_of}
-use Rattle.lgc_parser.specs.Classes.{is, is_name, is_value, is_order_value, is_logic_name, is_bound}
+use Rattle.lgc_parser.specs.declared.class.Class.TheVariants.{InfWord, Number, Text, Less, OpenRound, CloseRound, OpenBrace, CloseBrace, OpenSquare, CloseSquare, Comma}
+use Rattle.lgc_parser.specs.Spelled.{Spelled, spelled, spelled_all, token_word, word_of, place_of}
+use Rattle.lgc_parser.specs.Classes.{is, is_name, is_value, is_order_value, is_logic_name}
 use Rattle.lgc_parser.specs.TreeWords.{IsWordOf, RowHas, OpBodyHas, QuantBodyHas, StatementHas}
 use Rattle.lgc_parser.specs.OrderGrammar.{Node, Order}
-use Rattle.lgc_parser.specs.SpecGrammar.{Enclosed, Bracketed, Set, Cells, Several, Arguments, OpRow, QuantRow, Rows, OpMapping, OpTable, OpBound, BodyOfOp, QuantMapping, Sized, QuantInduced, QuantBound, BodyOfQuant, Logic, TruthValues, Designated, Ordering, Operator, Quantifier, OneStatement, Spec}
-use Rattle.lgc_parser.proofs.Keeps.{Keeps, one_keeps, nothing_keeps, either_keeps, optional_keeps, many_keeps, map_keeps, then_keeps, separated_keeps, loosely_keeps, between_keeps}
+use Rattle.lgc_parser.specs.SpecGrammar.{Value, Values, Enclosed, Bracketed, Set, Cells, Several, Arguments, OpRow, QuantRow, Rows, OpMapping, OpTable, OpBound, BodyOfOp, QuantMapping, Sized, QuantInduced, QuantBound, BodyOfQuant, Logic, TruthValues, Designated, Ordering, Operator, Quantifier, OneStatement, Spec}
+use Rattle.lgc_parser.proofs.Keeps.{Keeps, one_keeps, nothing_keeps, either_keeps, optional_keeps, many_keeps, map_keeps, then_keeps, behind_keeps, separated_keeps, loosely_keeps, between_keeps}
 
-module _ (P : Word → Type 0) where
-  abbrev F : Spelled → Type 0
-  F t = P (word_of t)
+module _ (F : Spelled → Type 0) where
+  -- where P holds of the word of each token of which F holds and which passes the test
+  pub word_keeps : (P : Word → Type 0) (test : Spelled → Bool) → ((t : Spelled) → F t → test t ≡ true → P (word_of t)) → Keeps F (Mapped word_of (One test)) P
+  word_keeps P test says = map_keeps F (λ t. P (word_of t)) P word_of (one_keeps F (λ t. P (word_of t)) test says) (λ t h. h)
 
+  enclosed_keeps : {A : Type 0} (R : A → Type 0) {L : Grammar Spelled A} (opens closes : Spelled → Bool) → Keeps F L R → Keeps F (Enclosed opens L closes) (λ x. R x.1)
+  enclosed_keeps R opens closes keeps =
+      behind_keeps F (λ x. R x.1) (λ first.
+      then_keeps F R (λ x. R x.1) keeps (λ tree r.
+      behind_keeps F (λ x. R x.1) (λ last.
+      nothing_keeps F (λ x. R x.1) (place_of first, tree, place_of last) r)))
+
+  bracketed_keeps : {A : Type 0} (R : A → Type 0) {L : Grammar Spelled A} → Keeps F L R → Keeps F (Bracketed L) (λ x. R x.1)
+  bracketed_keeps R keeps = either_keeps F (λ x. R x.1) (enclosed_keeps R (is OpenBrace) (is CloseBrace) keeps) (enclosed_keeps R (is OpenSquare) (is CloseSquare) keeps)
+
+  values_keep : (P : Word → Type 0) → Keeps F Value P → Keeps F (Optional [] Values) (All P)
+  values_keep P keeps = optional_keeps F (All P) [] (All-nil P) (separated_keeps F P (is Comma) keeps)
+
+  pub set_keeps : (P : Word → Type 0) → Keeps F Value P → Keeps F Set (λ x. All P x.1)
+  set_keeps P keeps = bracketed_keeps (All P) (values_keep P keeps)
+
+  pub sentences_keep : (R : Statement → Type 0) → Keeps F OneStatement R → Keeps F Spec (All R)
+  sentences_keep R keeps = many_keeps F R (then_keeps F R R keeps (λ tree r. behind_keeps F R (λ _. nothing_keeps F R tree r)))
+
+module _ (F : Spelled → Type 0) (P : Word → Type 0) (says : (t : Spelled) → F t → P (word_of t)) where
   word : (test : Spelled → Bool) → Keeps F (Mapped word_of (One test)) P
-  word test = map_keeps F F P word_of (one_keeps F test) (λ t h. h)
+  word test = word_keeps F P test (λ t h _. says t h)
 
   single : (w : Word) → P w → All P (w ∷ [])
   single w h = All-cons P w [] h (All-nil P)
-
-  -- one token, and then a phrase
-  token_then : {A : Type 0} (R : A → Type 0) (test : Spelled → Bool) {M : Spelled → Grammar Spelled A} → ((t : Spelled) → Keeps F (M t) R) → Keeps F (Then (One test) M) R
-  token_then R test rest = then_keeps F F R (one_keeps F test) (λ t _. rest t)
 
   -- ---- order texts
 
@@ -42,30 +60,14 @@ module _ (P : Word → Type 0) where
 
   -- ---- specifications
 
-  enclosed_keeps : {A : Type 0} (R : A → Type 0) {L : Grammar Spelled A} (opens closes : Spelled → Bool) → Keeps F L R → Keeps F (Enclosed opens L closes) (λ x. R x.1)
-  enclosed_keeps R opens closes keeps =
-      token_then (λ x. R x.1) opens (λ first.
-      then_keeps F R (λ x. R x.1) keeps (λ tree r.
-      token_then (λ x. R x.1) closes (λ last.
-      nothing_keeps F (λ x. R x.1) (place_of first, tree, place_of last) r)))
-
-  bracketed_keeps : {A : Type 0} (R : A → Type 0) {L : Grammar Spelled A} → Keeps F L R → Keeps F (Bracketed L) (λ x. R x.1)
-  bracketed_keeps R keeps = either_keeps F (λ x. R x.1) (enclosed_keeps R (is OpenBrace) (is CloseBrace) keeps) (enclosed_keeps R (is OpenSquare) (is CloseSquare) keeps)
-
-  values_keep : Keeps F (Optional [] (Separated (is Comma) (Mapped word_of (One is_value)))) (All P)
-  values_keep = optional_keeps F (All P) [] (All-nil P) (separated_keeps F P (is Comma) (word is_value))
-
-  set_keeps : Keeps F Set (λ x. All P x.1)
-  set_keeps = bracketed_keeps (All P) values_keep
-
   cells_keep : Keeps F Cells (λ x. All P x.1)
-  cells_keep = bracketed_keeps (All P) (optional_keeps F (All P) [] (All-nil P) (loosely_keeps F P (is Comma) (word is_value)))
+  cells_keep = bracketed_keeps F (All P) (optional_keeps F (All P) [] (All-nil P) (loosely_keeps F P (is Comma) (word is_value)))
 
   several_keeps : Keeps F Several (λ x. All P x.1)
   several_keeps =
-      token_then (λ x. All P x.1) (is OpenRound) (λ first.
-      then_keeps F (All P) (λ x. All P x.1) values_keep (λ arguments r.
-      token_then (λ x. All P x.1) (is CloseRound) (λ _.
+      behind_keeps F (λ x. All P x.1) (λ first.
+      then_keeps F (All P) (λ x. All P x.1) (values_keep F P (word is_value)) (λ arguments r.
+      behind_keeps F (λ x. All P x.1) (λ _.
       nothing_keeps F (λ x. All P x.1) (place_of first, arguments) r)))
 
   arguments_keep : Keeps F Arguments (λ x. All P x.1)
@@ -77,96 +79,102 @@ module _ (P : Word → Type 0) where
   op_row_keeps : Keeps F OpRow (RowHas P)
   op_row_keeps =
       then_keeps F (λ x. All P x.1) (RowHas P) arguments_keep (λ x r.
-      token_then (RowHas P) (is Colon) (λ _.
+      behind_keeps F (RowHas P) (λ _.
       then_keeps F P (RowHas P) (word is_value) (λ value h.
       nothing_keeps F (RowHas P) (row_of x.0 x.1 value) (record { arguments = r; value = h }))))
 
   quant_row_keeps : Keeps F QuantRow (RowHas P)
   quant_row_keeps =
-      then_keeps F (λ x. All P x.1) (RowHas P) set_keeps (λ x r.
-      token_then (RowHas P) (is Colon) (λ _.
+      then_keeps F (λ x. All P x.1) (RowHas P) (set_keeps F P (word is_value)) (λ x r.
+      behind_keeps F (RowHas P) (λ _.
       then_keeps F P (RowHas P) (word is_value) (λ value h.
       nothing_keeps F (RowHas P) (row_of x.0 x.1 value) (record { arguments = r; value = h }))))
 
   rows_keep : {L : Grammar Spelled Row} → Keeps F L (RowHas P) → Keeps F (Rows L) (λ x. All (RowHas P) x.1)
-  rows_keep keeps = bracketed_keeps (All (RowHas P)) (optional_keeps F (All (RowHas P)) [] (All-nil (RowHas P)) (separated_keeps F (RowHas P) (is Comma) keeps))
+  rows_keep keeps = bracketed_keeps F (All (RowHas P)) (optional_keeps F (All (RowHas P)) [] (All-nil (RowHas P)) (separated_keeps F (RowHas P) (is Comma) keeps))
 
   op_body_keeps : Keeps F BodyOfOp (OpBodyHas P)
   op_body_keeps = either_keeps F (OpBodyHas P) mapping (either_keeps F (OpBodyHas P) table bound)
     where
       mapping : Keeps F OpMapping (OpBodyHas P)
-      mapping = token_then (OpBodyHas P) (is MappingWord) (λ _. then_keeps F (λ x. All (RowHas P) x.1) (OpBodyHas P) (rows_keep op_row_keeps) (λ x r. nothing_keeps F (OpBodyHas P) (op.Mapping x.1 x.2) r))
+      mapping = behind_keeps F (OpBodyHas P) (λ _. then_keeps F (λ x. All (RowHas P) x.1) (OpBodyHas P) (rows_keep op_row_keeps) (λ x r. nothing_keeps F (OpBodyHas P) (op.Mapping x.1 x.2) r))
 
       table : Keeps F OpTable (OpBodyHas P)
-      table = token_then (OpBodyHas P) (is TableWord) (λ t. then_keeps F (λ x. All P x.1) (OpBodyHas P) cells_keep (λ x r. nothing_keeps F (OpBodyHas P) (op.Table (place_of t) x.1) r))
+      table = behind_keeps F (OpBodyHas P) (λ t. then_keeps F (λ x. All P x.1) (OpBodyHas P) cells_keep (λ x r. nothing_keeps F (OpBodyHas P) (op.Table (place_of t) x.1) r))
 
       bound : Keeps F OpBound (OpBodyHas P)
-      bound = token_then (OpBodyHas P) is_bound (λ t. token_then (OpBodyHas P) (is OpenRound) (λ _. then_keeps F P (OpBodyHas P) (word is_name) (λ w h. token_then (OpBodyHas P) (is CloseRound) (λ _. nothing_keeps F (OpBodyHas P) (op.Bound (place_of t) (is InfWord t) w) h))))
+      bound = behind_keeps F (OpBodyHas P) (λ t. behind_keeps F (OpBodyHas P) (λ _. then_keeps F P (OpBodyHas P) (word is_name) (λ w h. behind_keeps F (OpBodyHas P) (λ _. nothing_keeps F (OpBodyHas P) (op.Bound (place_of t) (is InfWord t) w) h))))
 
   quant_body_keeps : Keeps F BodyOfQuant (QuantBodyHas P)
   quant_body_keeps = either_keeps F (QuantBodyHas P) mapping (either_keeps F (QuantBodyHas P) induced bound)
     where
       mapping : Keeps F QuantMapping (QuantBodyHas P)
-      mapping = token_then (QuantBodyHas P) (is MappingWord) (λ _. then_keeps F (λ x. All (RowHas P) x.1) (QuantBodyHas P) (rows_keep quant_row_keeps) (λ x r. nothing_keeps F (QuantBodyHas P) (quant.Mapping x.1 x.2) r))
+      mapping = behind_keeps F (QuantBodyHas P) (λ _. then_keeps F (λ x. All (RowHas P) x.1) (QuantBodyHas P) (rows_keep quant_row_keeps) (λ x r. nothing_keeps F (QuantBodyHas P) (quant.Mapping x.1 x.2) r))
 
       sized : Keeps F Sized (QuantBodyHas P)
-      sized = then_keeps F P (QuantBodyHas P) (word is_name) (λ w h. token_then (QuantBodyHas P) (is Slash) (λ _. then_keeps F P (QuantBodyHas P) (word (is Number)) (λ n g. nothing_keeps F (QuantBodyHas P) (quant.Induced w n) (h, g))))
+      sized = then_keeps F P (QuantBodyHas P) (word is_name) (λ w h. behind_keeps F (QuantBodyHas P) (λ _. then_keeps F P (QuantBodyHas P) (word (is Number)) (λ n g. nothing_keeps F (QuantBodyHas P) (quant.Induced w n) (h, g))))
 
       induced : Keeps F QuantInduced (QuantBodyHas P)
-      induced = token_then (QuantBodyHas P) (is InducedWord) (λ _. then_keeps F (QuantBodyHas P) (QuantBodyHas P) (either_keeps F (QuantBodyHas P) (between_keeps F (QuantBodyHas P) (is OpenRound) (is CloseRound) sized) sized) (λ body h. nothing_keeps F (QuantBodyHas P) body h))
+      induced = behind_keeps F (QuantBodyHas P) (λ _. then_keeps F (QuantBodyHas P) (QuantBodyHas P) (either_keeps F (QuantBodyHas P) (between_keeps F (QuantBodyHas P) (is OpenRound) (is CloseRound) sized) sized) (λ body h. nothing_keeps F (QuantBodyHas P) body h))
 
       bound : Keeps F QuantBound (QuantBodyHas P)
-      bound = token_then (QuantBodyHas P) is_bound (λ t. token_then (QuantBodyHas P) (is OpenRound) (λ _. then_keeps F P (QuantBodyHas P) (word is_name) (λ w h. token_then (QuantBodyHas P) (is CloseRound) (λ _. nothing_keeps F (QuantBodyHas P) (quant.Bound (place_of t) (is InfWord t) w) h))))
+      bound = behind_keeps F (QuantBodyHas P) (λ t. behind_keeps F (QuantBodyHas P) (λ _. then_keeps F P (QuantBodyHas P) (word is_name) (λ w h. behind_keeps F (QuantBodyHas P) (λ _. nothing_keeps F (QuantBodyHas P) (quant.Bound (place_of t) (is InfWord t) w) h))))
 
   logic_keeps : Keeps F Logic (StatementHas P)
-  logic_keeps = token_then (StatementHas P) (is LogicWord) (λ t. then_keeps F P (StatementHas P) (word is_logic_name) (λ w h. nothing_keeps F (StatementHas P) (statement.Logic (place_of t) w) h))
+  logic_keeps = behind_keeps F (StatementHas P) (λ t. then_keeps F P (StatementHas P) (word is_logic_name) (λ w h. nothing_keeps F (StatementHas P) (statement.Logic (place_of t) w) h))
 
   truth_values_keep : Keeps F TruthValues (StatementHas P)
-  truth_values_keep = token_then (StatementHas P) (is ValuesWord) (λ t. then_keeps F (λ x. All P x.1) (StatementHas P) set_keeps (λ x r. nothing_keeps F (StatementHas P) (statement.Values (place_of t) x.1) r))
+  truth_values_keep = behind_keeps F (StatementHas P) (λ t. then_keeps F (λ x. All P x.1) (StatementHas P) (set_keeps F P (word is_value)) (λ x r. nothing_keeps F (StatementHas P) (statement.Values (place_of t) x.1) r))
 
   designated_keeps : Keeps F Designated (StatementHas P)
-  designated_keeps = token_then (StatementHas P) (is DesignatedWord) (λ t. then_keeps F (λ x. All P x.1) (StatementHas P) set_keeps (λ x r. nothing_keeps F (StatementHas P) (statement.Designated (place_of t) x.1) r))
+  designated_keeps = behind_keeps F (StatementHas P) (λ t. then_keeps F (λ x. All P x.1) (StatementHas P) (set_keeps F P (word is_value)) (λ x r. nothing_keeps F (StatementHas P) (statement.Designated (place_of t) x.1) r))
 
   ordering_keeps : Keeps F Ordering (StatementHas P)
   ordering_keeps =
-      token_then (StatementHas P) (is OrderingWord) (λ _.
-      token_then (StatementHas P) (is OpenRound) (λ _.
+      behind_keeps F (StatementHas P) (λ _.
+      behind_keeps F (StatementHas P) (λ _.
       then_keeps F P (StatementHas P) (word is_name) (λ name h.
-      token_then (StatementHas P) (is Comma) (λ _.
+      behind_keeps F (StatementHas P) (λ _.
       then_keeps F P (StatementHas P) (word (is Text)) (λ text g.
-      token_then (StatementHas P) (is CloseRound) (λ _.
+      behind_keeps F (StatementHas P) (λ _.
       nothing_keeps F (StatementHas P) (statement.Ordering name text) (h, g)))))))
 
   operator_keeps : Keeps F Operator (StatementHas P)
   operator_keeps =
-      token_then (StatementHas P) (is OperatorWord) (λ _.
-      token_then (StatementHas P) (is OpenRound) (λ _.
+      behind_keeps F (StatementHas P) (λ _.
+      behind_keeps F (StatementHas P) (λ _.
       then_keeps F P (StatementHas P) (word is_name) (λ name h.
-      token_then (StatementHas P) (is Slash) (λ _.
+      behind_keeps F (StatementHas P) (λ _.
       then_keeps F P (StatementHas P) (word (is Number)) (λ arity g.
-      token_then (StatementHas P) (is Comma) (λ _.
+      behind_keeps F (StatementHas P) (λ _.
       then_keeps F (OpBodyHas P) (StatementHas P) op_body_keeps (λ body k.
-      token_then (StatementHas P) (is CloseRound) (λ _.
+      behind_keeps F (StatementHas P) (λ _.
       nothing_keeps F (StatementHas P) (statement.Operator name arity body) (h, g, k)))))))))
 
   quantifier_keeps : Keeps F Quantifier (StatementHas P)
   quantifier_keeps =
-      token_then (StatementHas P) (is QuantifierWord) (λ _.
-      token_then (StatementHas P) (is OpenRound) (λ _.
+      behind_keeps F (StatementHas P) (λ _.
+      behind_keeps F (StatementHas P) (λ _.
       then_keeps F P (StatementHas P) (word is_name) (λ name h.
-      token_then (StatementHas P) (is Comma) (λ _.
+      behind_keeps F (StatementHas P) (λ _.
       then_keeps F (QuantBodyHas P) (StatementHas P) quant_body_keeps (λ body k.
-      token_then (StatementHas P) (is CloseRound) (λ _.
+      behind_keeps F (StatementHas P) (λ _.
       nothing_keeps F (StatementHas P) (statement.Quantifier name body) (h, k)))))))
 
   statement_keeps : Keeps F OneStatement (StatementHas P)
   statement_keeps = either_keeps F (StatementHas P) logic_keeps (either_keeps F (StatementHas P) truth_values_keep (either_keeps F (StatementHas P) designated_keeps (either_keeps F (StatementHas P) ordering_keeps (either_keeps F (StatementHas P) operator_keeps quantifier_keeps))))
 
   pub spec_keeps : Keeps F Spec (All (StatementHas P))
-  spec_keeps = many_keeps F (StatementHas P) (then_keeps F (StatementHas P) (StatementHas P) statement_keeps (λ tree h. token_then (StatementHas P) (is Dot) (λ _. nothing_keeps F (StatementHas P) tree h)))
+  spec_keeps = sentences_keep F (StatementHas P) statement_keeps
 
--- each token of the bytes has a word of them
-pub tokens_have : (bytes : List ℕ) (all front ts : List Token) → all ≡ front ++ ts → AllIn bytes ts → AllByRecursion (λ t. IsWordOf bytes all (word_of t)) (spelled_all bytes ts)
+-- ---- the tokens of the bytes
+
+-- t is one of the tokens, and has its word
+abbrev pub IsTokenOf : List ℕ → List Token → Spelled → Type 0
+IsTokenOf bytes all t = (word : IsWordOf bytes all (word_of t)) × (spelled bytes word.token ≡ t)
+
+pub tokens_have : (bytes : List ℕ) (all front ts : List Token) → all ≡ front ++ ts → AllIn bytes ts → AllByRecursion (IsTokenOf bytes all) (spelled_all bytes ts)
 tokens_have bytes all front [] e h = tt
 tokens_have bytes all front (t ∷ ts) e h =
-    (record { token = t; before = front; behind = ts; among = e; says = refl; ordered = omega (arith, h.0.0); inside = omega (arith, h.0.0, h.0.1) }, tokens_have bytes all (front ++ t ∷ []) ts (e ∙ sym (append_assoc front (t ∷ []) ts)) h.1)
+    let word : IsWordOf bytes all (token_word t) = record { token = t; before = front; behind = ts; among = e; says = refl; ordered = omega (arith, h.0.0); inside = omega (arith, h.0.0, h.0.1) } in
+    ((word, refl), tokens_have bytes all (front ++ t ∷ []) ts (e ∙ sym (append_assoc front (t ∷ []) ts)) h.1)

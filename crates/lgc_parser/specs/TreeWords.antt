@@ -1,5 +1,5 @@
 -- The words of trees.
-use Rattle.std.specs.Prelude.{◌≡◌, ◌≤◌, ℕ, List, ◌∷◌, ◌++◌, length, All}
+use Rattle.std.specs.Prelude.{◌≡◌, ◌≤◌, ℕ, Bool, true, List, ◌∷◌, ◌++◌, length, All}
 use Rattle.lgc_lexer.specs.declared.token.Token.{Token}
 use Rattle.lgc_parser.specs.declared.tree.Word.{Word}
 use Rattle.lgc_parser.specs.declared.tree.Row.{Row}
@@ -9,7 +9,7 @@ use Rattle.lgc_parser.specs.declared.tree.QuantBody.{QuantBody}
 use Rattle.lgc_parser.specs.declared.tree.QuantBody.TheVariants as quant
 use Rattle.lgc_parser.specs.declared.tree.Statement.{Statement}
 use Rattle.lgc_parser.specs.declared.tree.Statement.TheVariants as statement
-use Rattle.lgc_parser.specs.Spelled.{token_word}
+use Rattle.lgc_parser.specs.Spelled.{Spelled, spelled, token_word}
 
 -- w is where one of the tokens stands and where its content, which lies in the bytes
 pub record IsWordOf (bytes : List ℕ) (ts : List Token) (w : Word) : Type 0 where
@@ -20,6 +20,11 @@ pub record IsWordOf (bytes : List ℕ) (ts : List Token) (w : Word) : Type 0 whe
   pub says : w ≡ token_word token
   pub ordered : w.start ≤ w.end
   pub inside : w.end ≤ length bytes
+
+-- w is the word of one of the tokens, and this token passes the test
+pub record IsWordWhere (bytes : List ℕ) (ts : List Token) (test : Spelled → Bool) (w : Word) : Type 0 where
+  pub word : IsWordOf bytes ts w
+  pub passes : test (spelled bytes word.token) ≡ true
 
 -- ---- P holds of all words
 
@@ -44,3 +49,12 @@ StatementHas P (statement.Designated at values) = All P values
 StatementHas P (statement.Ordering name text) = P name × P text
 StatementHas P (statement.Operator name arity body) = P name × P arity × OpBodyHas P body
 StatementHas P (statement.Quantifier name body) = P name × QuantBodyHas P body
+
+-- ---- what a statement declares
+
+-- V holds of its truth values, and N of the name of its operator or quantifier
+abbrev pub StatementDeclares : (Word → Type 0) → (Word → Type 0) → Statement → Type 0
+StatementDeclares V N (statement.Values at values) = All V values
+StatementDeclares V N (statement.Operator name arity body) = N name
+StatementDeclares V N (statement.Quantifier name body) = N name
+StatementDeclares V N _ = Unit {0}

@@ -6,9 +6,10 @@ ghost use Rattle.lgc_lexer.specs.Tokens.{tokens_of};
 ghost use Rattle.lgc_lexer.specs.Spans.{AllIn};
 ghost use Rattle.lgc_parser.specs.declared.tree.Statement.{Statement};
 ghost use Rattle.lgc_parser.specs.Spelled.{spelled_all, IsRest};
+ghost use Rattle.lgc_parser.specs.Classes.{is_name, is_value};
 ghost use Rattle.lgc_parser.specs.SpecGrammar.{Spec};
 ghost use Rattle.lgc_parser.specs.SpecReading.{spec_at};
-ghost use Rattle.lgc_parser.specs.TreeWords.{IsWordOf, StatementHas};
+ghost use Rattle.lgc_parser.specs.TreeWords.{IsWordOf, IsWordWhere, StatementDeclares, StatementHas};
 ghost use Rattle.lgc_parser.specs.Gives.{Gives, Says, IsTree};
 
 use crate::fault::{Stop, SyntaxFault};
@@ -58,6 +59,8 @@ pub fn parse_spec(alloc: Global, bytes: &[u8], tokens: &[Token]) -> Result<SpecT
     ensures complete { (statements : List Statement) → Spec statements (spelled_all bytes.now tokens.now) → IsTree (λ t. t.statements) result statements }
     // Each word in it is one of the tokens, and its content lies in the bytes.
     ensures words { IfOk result (λ t. All (StatementHas (IsWordOf bytes.now tokens.now)) t.statements) }
+    // A truth value is the word of a value token, and the name of an operator or a quantifier that of a name token.
+    ensures declared { IfOk result (λ t. All (StatementDeclares (IsWordWhere bytes.now tokens.now is_value) (IsWordWhere bytes.now tokens.now is_name)) t.statements) }
     // The same as one function of the tokens.
     ensures exact { Says (λ r. whole spec_at (spelled_all bytes.now tokens.now) ≡ r) (length bytes.now) (λ t. t.statements) result }
 {

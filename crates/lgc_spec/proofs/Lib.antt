@@ -24,6 +24,7 @@ pub mod OrderingTurns
 pub mod LogicShapes
 pub mod OperatorShapes
 pub mod ReadingSteps
+pub mod PlainNames
 pub mod WholeLogic
 pub mod OneAnswer
 pub mod OneInTurn

@@ -1,4 +1,4 @@
--- What the definition of a specification gives is a logic, where its names are plain.
+-- What the definition of a specification gives is a logic, where the names that it declares are plain.
 use Rattle.std.proofs.Common.{◌≡◌, ◌≢◌, ℕ, zero, suc, ◌+◌, ◌*◌, ◌^◌, ◌<◌, ◌≤◌, Bool, true, false, cond, List, [], ◌∷◌, ◌++◌, length, map, take, get_or, All, Option, Some, None, option_map, Result, Ok, Err, refl, sym, ap, ◌∙◌, arith, ⊎_elim}
 use Rattle.std.specs.Prelude.{nat_lt, nat_le, slice_get, ◌&&◌}
 use Rattle.std.specs.List.{list_any, AllPairs, filter_map}
@@ -148,10 +148,10 @@ module _ (bytes : List ℕ) (names : List (List ℕ)) (orderings : List Ordered)
   named : (i : ℕ) (y : lgc.Operator) → i < length written → ((get_or operators i y).name ≡ text_of bytes (get_or written i absent).0) × (name_fault bytes (map (λ o. text_of bytes o.0) (take i written)) (get_or written i absent).0 ≡ None)
   named i y lt = operator_named bytes names some orderings (take i written) (get_or written i absent) (get_or operators i y) (all.1 i absent y lt)
 
-  pub operators_are : All (λ o. IsPlainName o.name) operators → All (IsOperator (length names)) operators
+  pub operators_are : All (λ o. IsPlainName (text_of bytes o.0)) written → All (IsOperator (length names)) operators
   operators_are plain i d lt =
       let within : i < length written = omega (arith, all.0, lt) in
-      operator_is bytes names some orderings (take i written) (get_or written i absent) (get_or operators i d) (rw (named i d within).0 at (plain i d lt)) (all.1 i absent d within)
+      operator_is bytes names some orderings (take i written) (get_or written i absent) (get_or operators i d) (plain i absent within) (all.1 i absent d within)
 
   pub symbols_apart : AllPairs (λ a b. a ≢ b) (map (λ o. o.name) operators)
   symbols_apart i j d lt below e =

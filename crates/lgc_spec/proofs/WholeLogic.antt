@@ -1,24 +1,27 @@
--- What the definition of a specification gives is a logic, where its names are plain.
+-- What the definition of a specification gives is a logic, where the names that it declares are plain.
 use Rattle.std.proofs.Common.{◌≡◌, ◌≢◌, ℕ, ◌+◌, ◌<◌, ◌≤◌, List, [], length, map, get_or, All, IfOk, Result, Ok, Err, refl, sym, arith}
 use Rattle.std.specs.List.{filter_map, AllPairs}
 use Rattle.std.proofs.lemmas.List.{append-nil}
-use Rattle.std.proofs.lemmas.List.Elements.{All-nil}
+use Rattle.std.proofs.lemmas.List.Elements.{All-nil, All-map}
 use Rattle.lgc_values.specs.Values.{mask_of}
 use Rattle.lgc_values.specs.Logic.{IsLogic, IsPlainName, IsQuantifier}
 use Rattle.lgc_parser.specs.declared.tree.Statement.{Statement}
+use Rattle.lgc_parser.specs.TreeWords.{StatementDeclares}
 use Rattle.lgc_spec.specs.declared.spec.Spec.{Spec}
 use Rattle.lgc_spec.specs.declared.fault.SpecFault.{SpecFault}
 use Rattle.lgc_spec.specs.Faults.{Answers}
 use Rattle.lgc_spec.specs.Logics.{logic_of}
+use Rattle.lgc_spec.specs.Words.{text_of, SaysPlainName}
 use Rattle.lgc_spec.specs.Statements.{first_some, name_in}
 use Rattle.lgc_spec.specs.Orderings.{OrderingsGive}
 use Rattle.lgc_spec.specs.Operators.{OperatorsGive, operator_in}
 use Rattle.lgc_spec.specs.Specification.{values_given, quantifier_in, logic_name, StatementsGive}
+use Rattle.lgc_spec.proofs.FoundWords.{declared_values, declared_operators}
 use Rattle.lgc_spec.proofs.OperatorShapes.{unless_ok, follows_ok, then_ok}
 use Rattle.lgc_spec.proofs.LogicShapes.{values_are, members_kept, operators_are, symbols_apart, symbols_few}
 
-pub is_logic : (bytes : List ℕ) (statements : List Statement) (told : Spec) → All IsPlainName told.values → All (λ o. IsPlainName o.name) told.operators → StatementsGive bytes statements (Ok told) → IsLogic (logic_of told)
-is_logic bytes statements told plain plain_symbols h =
+pub is_logic : (bytes : List ℕ) (statements : List Statement) (told : Spec) → All (StatementDeclares (SaysPlainName bytes) (SaysPlainName bytes)) statements → StatementsGive bytes statements (Ok told) → IsLogic (logic_of told)
+is_logic bytes statements told plain h =
     let (values, v, h1) = follows_ok (values_given bytes statements) _ told h in
     let (orderings, o, h2) = then_ok (OrderingsGive bytes values.0 statements) _ told h1 in
     let (operators, all, h3) = then_ok (OperatorsGive bytes values.0 orderings statements) _ told h2 in
@@ -31,10 +34,10 @@ is_logic bytes statements told plain plain_symbols h =
     rw same (record {
       sized = record { low = law.0.some; high = law.0.few };
       named = refl;
-      plain = rw same at plain;
+      plain = rw law.1.3 (All-map IsPlainName (text_of bytes) law.1.1 (declared_values (SaysPlainName bytes) (SaysPlainName bytes) statements law.1.0 law.1.1 plain law.1.2));
       distinct = law.0.distinct;
       designated = members_kept (length values.0) (mask_of values.1);
-      operators = operators_are bytes values.0 orderings some written operators all (rw same at plain_symbols);
+      operators = operators_are bytes values.0 orderings some written operators all (declared_operators (SaysPlainName bytes) (SaysPlainName bytes) statements plain);
       quantifiers = All-nil (IsQuantifier (length values.0));
       few = symbols_few bytes values.0 orderings some written operators all;
       distinct_symbols = rw append-nil (symbols_apart bytes values.0 orderings some written operators all);
@@ -42,6 +45,6 @@ is_logic bytes statements told plain plain_symbols h =
       same_spec : (a b : Spec) → ◌≡◌ {A = Result Spec SpecFault} (Ok a) (Ok b) → a ≡ b
       same_spec a b e = cc
 
-pub logic_told : (bytes : List ℕ) (statements : List Statement) (result : Result Spec SpecFault) → Answers (StatementsGive bytes statements) result → IfOk result (λ spec. All IsPlainName spec.values → All (λ o. IsPlainName o.name) spec.operators → IsLogic (logic_of spec))
-logic_told bytes statements (Ok told) h = λ plain plain_symbols. is_logic bytes statements told plain plain_symbols h
-logic_told bytes statements (Err fault) h = tt
+pub logic_told : (bytes : List ℕ) (statements : List Statement) (result : Result Spec SpecFault) → All (StatementDeclares (SaysPlainName bytes) (SaysPlainName bytes)) statements → Answers (StatementsGive bytes statements) result → IfOk result (λ spec. IsLogic (logic_of spec))
+logic_told bytes statements (Ok told) plain h = is_logic bytes statements told plain h
+logic_told bytes statements (Err fault) plain h = tt

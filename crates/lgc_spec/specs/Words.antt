@@ -2,6 +2,7 @@
 use Rattle.std.specs.Prelude.{ℕ, ◌≤◌, ◌==◌, Bool, not, List, [], ◌∷◌, map, find, position, length, All, Option, Some, None, unwrap_or, option_map, slice_range, slice_index_or, if◌then◌else◌}
 use Rattle.std.specs.Str.{bytes_eq}
 use Rattle.std.specs.List.{list_any}
+use Rattle.lgc_values.specs.Logic.{IsPlainName}
 use Rattle.lgc_parser.specs.declared.tree.Word.{Word}
 use Rattle.lgc_spec.specs.declared.fault.SpecFault.{SpecFault}
 use Rattle.lgc_spec.specs.declared.fault.TheConstants.{UNKNOWN_VALUE}
@@ -15,6 +16,10 @@ LiesIn len w = (w.start ≤ w.end) × (w.end ≤ len)
 -- what a word says
 abbrev pub text_of : List ℕ → Word → List ℕ
 text_of bytes w = slice_range bytes w.start w.end
+
+-- the word says a plain name
+abbrev pub SaysPlainName : List ℕ → Word → Type 0
+SaysPlainName bytes w = IsPlainName (text_of bytes w)
 
 -- whether the text is one of the names
 abbrev pub is_among : List (List ℕ) → List ℕ → Bool

@@ -2,13 +2,13 @@
 ghost use Rattle.std.specs.Prelude.{◌≡◌, All, IfSome, option_map, ◌<◌, ◌≤◌, ◌^◌, length, IfOk, Result};
 ghost use Rattle.lgc_values.specs.declared.TheConstants.{MOST_VALUES};
 ghost use Rattle.lgc_values.specs.Values.{members_of};
-ghost use Rattle.lgc_values.specs.Logic.{IsLogic, IsPlainName};
-ghost use Rattle.lgc_parser.specs.TreeWords.{StatementHas};
+ghost use Rattle.lgc_values.specs.Logic.{IsLogic};
+ghost use Rattle.lgc_parser.specs.TreeWords.{StatementDeclares, StatementHas};
 ghost use Rattle.lgc_spec.specs.declared.spec.Spec.{Spec};
 ghost use Rattle.lgc_spec.specs.declared.fault.SpecFault.{SpecFault};
 ghost use Rattle.lgc_spec.specs.Faults.{Answers, Gives, Passes, fault_at};
 ghost use Rattle.lgc_spec.specs.Logics.{logic_of};
-ghost use Rattle.lgc_spec.specs.Words.{LiesIn};
+ghost use Rattle.lgc_spec.specs.Words.{LiesIn, SaysPlainName};
 ghost use Rattle.lgc_spec.specs.Statements.{first_some};
 ghost use Rattle.lgc_spec.specs.Stands.{AnswersFor, TreeGives};
 ghost use Rattle.lgc_spec.specs.Specification.{BytesGive, StatementsGive, values_given, logic_name, quantifier_in};
@@ -33,6 +33,7 @@ fn tree_given(alloc: Global, bytes: &[u8]) -> Result<SpecTree, SpecFault>
     requires { length bytes.now < 2 ^ 32 }
     ensures tree { AnswersFor (λ tree statements. tree.statements ≡ statements) (TreeGives bytes.now) result }
     ensures words { IfOk result (λ tree. All (StatementHas (LiesIn (length bytes.now))) tree.statements) }
+    ensures plain { IfOk result (λ tree. All (StatementDeclares (SaysPlainName bytes.now) (SaysPlainName bytes.now)) tree.statements) }
 {
     let tokens = tokens_given(alloc, 0, bytes)?;
     match parse_spec(alloc, bytes, &tokens) {
@@ -126,9 +127,8 @@ pub fn read_spec(alloc: Global, bytes: &[u8]) -> Result<Spec, SpecFault>
     // What the bytes give is answered, and nothing else.
     ensures complete { (told : Result Spec SpecFault) → BytesGive bytes.now told → Gives (λ spec. spec) result told }
     ensures below { IfOk result (λ spec. spec.designated < 2 ^ length spec.values) }
-    // Where its names are plain, it is a logic.
-    ensures logic { IfOk result (λ spec. All IsPlainName spec.values → All (λ o. IsPlainName o.name) spec.operators
-        → IsLogic (logic_of spec)) }
+    // It is a logic.
+    ensures logic { IfOk result (λ spec. IsLogic (logic_of spec)) }
 {
     if bytes.len() > LONGEST_FILE {
         return Err(fault_at(FILE_TOO_LONG, LONGEST_FILE as u32));

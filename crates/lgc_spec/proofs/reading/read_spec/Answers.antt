@@ -23,4 +23,4 @@ pub returns-clause-complete : goal.returns-clause-complete
 returns-clause-complete c = bytes_answered c.args.bytes.now c.logic_given.result (returns-clause-answer c)
 
 pub returns-clause-logic : goal.returns-clause-logic
-returns-clause-logic c = logic_told c.args.bytes.now c.items.result.now c.logic_given.result c.logic_given.ensures.answer
+returns-clause-logic c = logic_told c.args.bytes.now c.items.result.now c.logic_given.result (rw c.items.ensures c.in_ok-tree.ensures.plain) c.logic_given.ensures.answer
