@@ -1,4 +1,5 @@
-use Rattle.std.proofs.Common.{List, ℕ, refl, subst}
+use Rattle.std.proofs.Common.{List, ℕ, refl, subst, ap, ◌∙◌}
+use Rattle.std.specs.Prelude.{Err}
 use Rattle.lgc_top.specs.declared.run.Status.TheVariants.{Done}
 use Rattle.lgc_top.specs.FaultLine.{fault_line}
 use Rattle.lgc_top.specs.Run.{Run, run_of, AfterPut}
@@ -17,4 +18,5 @@ pub returns-in-Err-Fault : goal.returns-in-Err-Fault
 returns-in-Err-Fault g c words files files_after asked =
     let fault = c.in-Err-Fault in
     let run : Run = run_of words files files_after (g.O.Sink.state c.args.out.now) (g.O.Sink.state c.args.out.now) (g.E.Sink.state c.args.err.now) (g.E.Sink.state c.put_fault.new.err) in
-    bad_spec_ends run (fault_line fault.number fault.offset fault.kept) c.put_fault.result (c.args.bytes.now, asked, record { number = fault.number; offset = fault.offset; kept = fault.kept; given = fault.ensures; told = refl }) c.put_fault.ensures refl
+    let given = rw (fault.is ∙ ap Err fault.field-0-is) at c.calculus_given.ensures in
+    bad_spec_ends run (fault_line fault.number fault.offset fault.kept) c.put_fault.result (c.args.bytes.now, asked, record { number = fault.number; offset = fault.offset; kept = fault.kept; given = given; told = refl }) c.put_fault.ensures refl
