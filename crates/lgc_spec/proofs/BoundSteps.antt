@@ -1,11 +1,9 @@
 -- The bounds of an order, and of the links that make it.
-use Rattle.std.proofs.Common.{◌≡◌, ℕ, ◌*◌, ◌/◌, ◌%◌, ◌<◌, ◌≤◌, ◌↔◌, Bool, true, false, List, [], ◌∷◌, length, get_or, Result, Ok, Err, refl, sym, arith}
-use Rattle.std.proofs.Math.Nat.{mod-lt, div-lt_iff_lt-mul}
-use Rattle.lgc_orders.specs.Order.{IsInf, IsSup}
+use Rattle.std.proofs.Common.{◌≡◌, ℕ, ◌*◌, ◌/◌, ◌%◌, ◌<◌, Bool, List, [], ◌∷◌, length, get_or, Err, refl}
 use Rattle.lgc_spec.specs.declared.fault.SpecFault.{SpecFault}
 use Rattle.lgc_spec.specs.Faults.{keeping, Answers}
 use Rattle.lgc_spec.specs.Words.{names_of}
-use Rattle.lgc_spec.specs.Bounds.{IsBound, HasBound, BoundsGive}
+use Rattle.lgc_spec.specs.Bounds.{IsBound, BoundsGive}
 
 -- the first row without a bound
 pub bound_fault : (lower : Bool) (names : List (List ℕ)) (at : ℕ) (le : ℕ → ℕ → Type 0) (row size : ℕ) (table : List ℕ) (pair : List (List ℕ)) (fault : SpecFault) → size ≡ length names → row < length names * length names → ((c : ℕ) → IsBound lower size le (row / length names) (row % length names) c → ⊥) → ((r : ℕ) → r < row → IsBound lower (length names) le (r / length names) (r % length names) (get_or table r 0)) → pair ≡ names_of names (row / length names ∷ row % length names ∷ []) → fault ≡ keeping 20 at pair → Answers (BoundsGive lower names at le) (Err fault)

@@ -1,8 +1,8 @@
 -- The first fault of items is the fault of one of them, and none before it has one.
-use Rattle.std.proofs.Common.{◌≡◌, ℕ, List, [], ◌∷◌, ◌++◌, Option, Some, None, refl, sym, ap, ◌∙◌, append_assoc}
+use Rattle.std.proofs.Common.{◌≡◌, List, [], ◌∷◌, ◌++◌, Option, Some, None, refl, ap, ◌∙◌, append_assoc}
 use Rattle.std.specs.Option.{option_or}
 use Rattle.std.proofs.lemmas.List.{append-nil}
-use Rattle.lgc_spec.specs.InOrder.{first_fault_behind, first_fault, HasNoFault, IsFirstFault, IsFirst}
+use Rattle.lgc_spec.specs.InOrder.{first_fault_behind, first_fault, IsFirst}
 use Rattle.lgc_spec.proofs.InOrderLaws.{none_behind}
 
 pub record Found {X F : Type 0} (fault : List X → X → Option F) (start xs : List X) (f : F) : Type 0 where

@@ -1,7 +1,7 @@
 -- What the definition of a specification gives is a logic, where the names that it declares are plain.
-use Rattle.std.proofs.Common.{◌≡◌, ◌≢◌, ℕ, zero, suc, ◌+◌, ◌*◌, ◌^◌, ◌<◌, ◌≤◌, Bool, true, false, cond, List, [], ◌∷◌, ◌++◌, length, map, take, get_or, All, Option, Some, None, option_map, Result, Ok, Err, refl, sym, ap, ◌∙◌, arith, ⊎_elim}
-use Rattle.std.specs.Prelude.{nat_lt, nat_le, slice_get, ◌&&◌}
-use Rattle.std.specs.List.{list_any, AllPairs, filter_map}
+use Rattle.std.proofs.Common.{◌≡◌, ◌≢◌, ℕ, zero, suc, ◌+◌, ◌<◌, ◌≤◌, Bool, true, false, List, [], ◌∷◌, length, map, take, get_or, All, Option, Some, None, option_map, Result, Ok, refl, sym, ap, ◌∙◌, arith, ⊎_elim}
+use Rattle.std.specs.Prelude.{nat_lt, slice_get, ◌&&◌}
+use Rattle.std.specs.List.{list_any, AllPairs}
 use Rattle.std.specs.Str.{bytes_eq}
 use Rattle.std.specs.Option.{option_or}
 use Rattle.std.proofs.lemmas.Bool.{ltb-false, leb-false}
@@ -20,7 +20,6 @@ use Rattle.lgc_parser.specs.declared.tree.OpBody.{OpBody}
 use Rattle.lgc_parser.specs.declared.tree.OpBody.TheVariants.{Table}
 use Rattle.lgc_parser.specs.declared.tree.Statement.{Statement}
 use Rattle.lgc_spec.specs.declared.fault.SpecFault.{SpecFault}
-use Rattle.lgc_spec.specs.Faults.{unless, ◌>>=◌}
 use Rattle.lgc_spec.specs.InOrder.{first_fault, AllGive}
 use Rattle.lgc_spec.specs.Words.{text_of, is_said, says_again, first_repeat}
 use Rattle.lgc_spec.specs.Statements.{first_second, first_some, needed, values_in, designated_in}

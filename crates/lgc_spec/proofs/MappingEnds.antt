@@ -1,16 +1,16 @@
 -- What the table of all rows of a mapping tells.
-use Rattle.std.proofs.Common.{◌≡◌, ◌≢◌, ℕ, zero, suc, ◌+◌, ◌^◌, ◌<◌, ◌≤◌, ◌==◌, Bool, true, false, cond, not, List, [], ◌∷◌, length, map, get_or, find, Option, Some, None, option_map, unwrap_or, is_some, Result, Ok, Err, refl, sym, ap, ◌∙◌, arith}
+use Rattle.std.proofs.Common.{◌≡◌, ◌≢◌, ℕ, zero, suc, ◌+◌, ◌^◌, ◌<◌, ◌≤◌, ◌==◌, Bool, true, false, not, List, length, map, get_or, find, Option, Some, None, option_map, unwrap_or, is_some, Ok, Err, refl, sym, ap, arith}
 use Rattle.std.specs.List.{list_any, range_with_len}
 use Rattle.std.proofs.lemmas.Bool.{eq-eqb, ne_eqb}
 use Rattle.std.proofs.lemmas.List.FromFn.{fill_by_all}
 use Rattle.lgc_values.specs.Logic.{arguments_at}
 use Rattle.lgc_values.specs.declared.TheConstants.{MOST_VALUES}
 use Rattle.lgc_parser.specs.declared.tree.Row.{Row}
-use Rattle.lgc_spec.specs.Faults.{fault_at, keeping, unless}
+use Rattle.lgc_spec.specs.Faults.{keeping}
 use Rattle.lgc_spec.specs.InOrder.{first_fault}
 use Rattle.lgc_spec.specs.Words.{value_of, names_of}
-use Rattle.lgc_spec.specs.Mappings.{has_arguments, row_fault, row_at, indices, missing_row, result_at, mapping_given}
-use Rattle.lgc_spec.specs.Rows.{mark_at, TellsRows}
+use Rattle.lgc_spec.specs.Mappings.{has_arguments, row_fault, row_at, indices, result_at, mapping_given}
+use Rattle.lgc_spec.specs.Rows.{TellsRows}
 use Rattle.lgc_spec.proofs.PutRows.{any_find, small_results}
 
 -- ---- the first number that passes a test

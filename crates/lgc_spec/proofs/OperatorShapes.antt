@@ -1,6 +1,6 @@
 -- What the definition of an operator gives is an operator of a logic.
-use Rattle.std.proofs.Common.{◌≡◌, ℕ, ◌+◌, ◌*◌, ◌^◌, ◌/◌, ◌%◌, ◌<◌, ◌≤◌, Bool, true, false, cond, List, [], ◌∷◌, length, map, get_or, All, Option, Some, None, option_map, Result, Ok, Err, refl, sym, ap, ◌∙◌, arith}
-use Rattle.std.specs.Prelude.{nat_lt, nat_le, unwrap_or, slice_index, ◌==◌, ◌&&◌}
+use Rattle.std.proofs.Common.{◌≡◌, ℕ, ◌+◌, ◌*◌, ◌^◌, ◌/◌, ◌%◌, ◌<◌, Bool, true, false, cond, List, length, map, get_or, All, Option, Some, None, option_map, Result, Ok, Err, refl, sym, ap, ◌∙◌, arith}
+use Rattle.std.specs.Prelude.{nat_lt, nat_le, unwrap_or, ◌==◌}
 use Rattle.std.specs.List.{position_or_len, range_with_len}
 use Rattle.std.specs.Str.{bytes_eq}
 use Rattle.std.proofs.lemmas.Bool.{ltb-true, leb-true, eqb-true, and_parts}
@@ -16,7 +16,7 @@ use Rattle.lgc_parser.specs.declared.tree.Row.{Row}
 use Rattle.lgc_parser.specs.declared.tree.OpBody.{OpBody}
 use Rattle.lgc_parser.specs.declared.tree.OpBody.TheVariants.{Mapping, Table, Bound}
 use Rattle.lgc_spec.specs.declared.fault.SpecFault.{SpecFault}
-use Rattle.lgc_spec.specs.Faults.{fault_at, unless, ◌>>=◌, Follows, Then}
+use Rattle.lgc_spec.specs.Faults.{unless, ◌>>=◌, Follows, Then}
 use Rattle.lgc_spec.specs.Words.{text_of, value_of, first_unknown, first_repeat}
 use Rattle.lgc_spec.specs.Mappings.{row_fault, missing_row, result_at, row_at, indices, mapping_given}
 use Rattle.lgc_spec.specs.InOrder.{first_fault}

@@ -1,12 +1,11 @@
 -- From the text of an ordering to what it gives.
-use Rattle.std.proofs.Common.{◌≡◌, ℕ, ◌+◌, List, Some, None, Result, Ok, Err, refl, sym, ap}
+use Rattle.std.proofs.Common.{◌≡◌, ℕ, List, None, Result, Ok, Err, sym}
 use Rattle.std.specs.List.{flat_map}
 use Rattle.lgc_parser.specs.declared.tree.Word.{Word}
 use Rattle.lgc_parser.specs.OrderGrammar.{Order}
 use Rattle.lgc_spec.specs.declared.fault.SpecFault.{SpecFault}
 use Rattle.lgc_spec.specs.declared.fault.SpecFault.TheVariants.{Fault, Memory}
-use Rattle.lgc_spec.specs.declared.fault.TheConstants.{UNKNOWN_VALUE}
-use Rattle.lgc_spec.specs.Faults.{fault_at, Follows, Then, Answers}
+use Rattle.lgc_spec.specs.Faults.{Follows, Then}
 use Rattle.lgc_spec.specs.Words.{text_of, unknown_word}
 use Rattle.lgc_spec.specs.Texts.{tokens_given, Parses}
 use Rattle.lgc_spec.specs.Orderings.{Ordered, Orders, ChainsGive, links_of}

@@ -20,7 +20,6 @@ use Rattle.lgc_parser.specs.declared.tree.Word.{Word}
 use Rattle.lgc_parser.specs.Spelled.{Spelled, spelled, spelled_all, place}
 use Rattle.lgc_parser.specs.Gives.{Says}
 use Rattle.lgc_parser.specs.OrderGrammar.{Order}
-use Rattle.lgc_parser.specs.TreeWords.{IsWordOf}
 use Rattle.lgc_spec.specs.Orderings.{pairs_of, chain_links, links_of}
 use Rattle.lgc_spec.specs.OrderTexts.{StandsIn}
 use Rattle.lgc_spec.specs.Texts.{lexed, tokens_given}

@@ -1,7 +1,7 @@
 -- The names that a specification declares are plain, since their tokens have the forms of values and names.
-use Rattle.std.proofs.Common.{◌≡◌, ◌≢◌, ℕ, suc, ◌+◌, ◌-◌, ◌*◌, ◌<◌, ◌≤◌, Bool, true, false, cond, List, [], ◌∷◌, ◌++◌, length, take, drop, All, Result, Ok, refl, sym, ap, subst, ◌∙◌, arith, append_assoc, length-drop}
+use Rattle.std.proofs.Common.{◌≡◌, ◌≢◌, ℕ, suc, ◌+◌, ◌-◌, ◌≤◌, Bool, true, false, List, [], ◌∷◌, ◌++◌, length, take, drop, All, Ok, refl, sym, ap, subst, ◌∙◌, arith, append_assoc, length-drop}
 use Rattle.std.specs.Prelude.{◌==◌, ◌||◌, codes, slice_range}
-use Rattle.std.specs.List.{list_all, AllPass}
+use Rattle.std.specs.List.{list_all}
 use Rattle.std.specs.Char.{is_ascii_digit, is_ascii_lowercase, is_ascii_uppercase}
 use Rattle.std.proofs.lemmas.Bool.{eqb-true, and_parts}
 use Rattle.std.proofs.lemmas.Bool.Decides.{nat_tests}
@@ -14,7 +14,6 @@ use Rattle.lgc_lexer.specs.declared.token.Kind.{Kind}
 use Rattle.lgc_lexer.specs.declared.token.Kind.TheVariants.{Lower, Upper, Digits, Quoted, Text, Symbol, Punct}
 use Rattle.lgc_lexer.specs.declared.token.Token.{Token}
 use Rattle.lgc_lexer.specs.Forms.{is_one_of, is_word, is_symbol, is_quotable, IsRun, HasForm}
-use Rattle.lgc_lexer.specs.Tokens.{tokens_of}
 use Rattle.lgc_lexer.specs.Spans as span
 use Rattle.lgc_lexer.specs.Spans.{quote_len, content_of, LiesIn}
 use Rattle.lgc_lexer.specs.Cuts.{AreNext, HasOnlyGap}
@@ -22,7 +21,7 @@ use Rattle.lgc_lexer.proofs.CutLaws.{are_tokens_of}
 use Rattle.lgc_parser.specs.declared.tree.Word.{Word}
 use Rattle.lgc_parser.specs.declared.tree.Statement.{Statement}
 use Rattle.lgc_parser.specs.declared.tree.Statement.TheVariants as statement
-use Rattle.lgc_parser.specs.Spelled.{Spelled, spelled}
+use Rattle.lgc_parser.specs.Spelled.{spelled}
 use Rattle.lgc_parser.specs.Classes.{is_name, is_value}
 use Rattle.lgc_parser.specs.TreeWords.{IsWordWhere, StatementDeclares}
 use Rattle.lgc_parser.proofs.ValueKinds.{name_is_value, value_kind}

@@ -1,9 +1,9 @@
 -- The loop that puts the rows of a mapping in their places.
-use Rattle.std.proofs.Common.{◌≡◌, ◌≢◌, ℕ, zero, suc, ◌+◌, ◌*◌, ◌^◌, ◌<◌, ◌≤◌, ◌==◌, Bool, true, false, cond, not, ◌||◌, List, [], ◌∷◌, ◌++◌, All, length, map, take, set, replicate, get_or, find, position, Option, Some, None, option_map, unwrap_or, is_some, Result, Ok, Err, refl, sym, ap, ◌∙◌, arith, subst, add-one, ⊎_elim}
+use Rattle.std.proofs.Common.{◌≡◌, ◌≢◌, ℕ, ◌+◌, ◌^◌, ◌<◌, ◌≤◌, ◌==◌, Bool, true, false, cond, ◌||◌, List, [], ◌∷◌, ◌++◌, All, length, take, set, replicate, get_or, find, position, Option, Some, None, option_map, unwrap_or, is_some, Err, refl, sym, ap, ◌∙◌, arith, ⊎_elim}
 use Rattle.std.specs.Option.{option_or}
 use Rattle.std.specs.Str.{bytes_eq}
 use Rattle.std.specs.List.{list_any}
-use Rattle.std.proofs.lemmas.Bool.{cases_eq, eqb-true, eq-eqb}
+use Rattle.std.proofs.lemmas.Bool.{cases_eq, eqb-true}
 use Rattle.std.proofs.lemmas.Slice.Eq.{bytes_eq-Decides}
 use Rattle.std.proofs.lemmas.List.{take_more, get_or-set_same, get_or-set_other, get_or-replicate, length-set, length-replicate, length-map}
 use Rattle.std.proofs.lemmas.List.Folds.{find-append}
@@ -16,8 +16,8 @@ use Rattle.lgc_parser.specs.declared.tree.Row.{Row}
 use Rattle.lgc_spec.specs.declared.fault.SpecFault.{SpecFault}
 use Rattle.lgc_spec.specs.declared.fault.SpecFault.TheVariants.{Fault, Memory}
 use Rattle.lgc_spec.specs.Faults.{fault_at, Passes}
-use Rattle.lgc_spec.specs.InOrder.{first_fault, first_fault_behind}
-use Rattle.lgc_spec.specs.Words.{text_of, value_of, first_unknown}
+use Rattle.lgc_spec.specs.InOrder.{first_fault}
+use Rattle.lgc_spec.specs.Words.{text_of, value_of}
 use Rattle.lgc_spec.specs.Mappings.{arguments_of, has_arguments, row_again, row_fault, row_at}
 use Rattle.lgc_spec.specs.Rows.{width_fault, index_of, mark_at, TellsRows}
 use Rattle.lgc_spec.proofs.InOrderLaws.{first_fault_found, first_fault_more}

@@ -1,5 +1,5 @@
 -- From the steps of the reader to what they tell together.
-use Rattle.std.proofs.Common.{◌≡◌, ℕ, ◌<◌, ◌≤◌, ◌^◌, List, [], length, Option, Some, None, Result, Ok, Err, refl, sym, ◌∙◌, subst}
+use Rattle.std.proofs.Common.{◌≡◌, ℕ, ◌<◌, ◌≤◌, ◌^◌, List, [], length, None, Result, Ok, Err, refl, sym, ◌∙◌, subst}
 use Rattle.std.proofs.lemmas.Bool.{le-ltb}
 use Rattle.lgc_values.specs.Values.{members_of, mask_of}
 use Rattle.lgc_values.proofs.ValueLaws.{mask_law}
@@ -11,13 +11,13 @@ use Rattle.lgc_spec.specs.declared.spec.Spec.{Spec}
 use Rattle.lgc_spec.specs.declared.fault.SpecFault.{SpecFault}
 use Rattle.lgc_spec.specs.declared.fault.SpecFault.TheVariants.{Fault, Memory}
 use Rattle.lgc_spec.specs.declared.reading.TheConstants.{LONGEST_FILE}
-use Rattle.lgc_spec.specs.Faults.{Answers, Follows, Passes, Then, unless}
+use Rattle.lgc_spec.specs.Faults.{Answers, Follows, Passes, Then}
 use Rattle.lgc_spec.specs.Statements.{first_some, name_in}
 use Rattle.lgc_spec.specs.Stands.{TreeGives}
 use Rattle.lgc_spec.specs.Texts.{tokens_given, Parses}
 use Rattle.lgc_spec.specs.Orderings.{Ordered, OrderingsGive}
 use Rattle.lgc_spec.specs.Operators.{OperatorsGive}
-use Rattle.lgc_spec.specs.Specification.{too_long, values_given, quantifier_in, logic_name, StatementsGive, BytesGive}
+use Rattle.lgc_spec.specs.Specification.{values_given, quantifier_in, logic_name, StatementsGive, BytesGive}
 
 -- ---- the statements
 

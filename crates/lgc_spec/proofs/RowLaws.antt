@@ -1,5 +1,5 @@
 -- The faults of a row that don't depend on the rows before it.
-use Rattle.std.proofs.Common.{◌≡◌, ℕ, List, [], ◌∷◌, ◌++◌, length, find, Option, Some, None, not, Result, Ok, Err, cond, option_map, refl, sym, ap, ◌∙◌, eq-eqb, subst, Bool}
+use Rattle.std.proofs.Common.{◌≡◌, ℕ, List, [], ◌∷◌, ◌++◌, length, find, Option, Some, None, not, Result, Err, option_map, refl, sym, eq-eqb, subst, Bool}
 use Rattle.std.specs.Option.{option_or}
 use Rattle.std.proofs.lemmas.List.Folds.{find-append}
 use Rattle.lgc_parser.specs.declared.tree.Word.{Word}

@@ -1,11 +1,11 @@
 -- The step of the loop over the words of a set of values.
-use Rattle.std.proofs.Common.{◌≡◌, ℕ, ◌+◌, ◌*◌, ◌%◌, ◌^◌, ◌<◌, ◌≤◌, Bool, true, false, ◌==◌, ◌||◌, ◌&&◌, List, length, take, get_or, sym, ◌∙◌, arith, refl}
+use Rattle.std.proofs.Common.{◌≡◌, ℕ, ◌+◌, ◌*◌, ◌%◌, ◌^◌, ◌<◌, ◌≤◌, Bool, true, false, ◌==◌, ◌||◌, ◌&&◌, List, length, take, get_or, ◌∙◌, arith}
 use Rattle.std.specs.Prelude.{nat_lt, bit_or}
 use Rattle.std.specs.List.{list_any}
 use Rattle.std.proofs.lemmas.Bool.Decides.{nat_tests}
 use Rattle.std.proofs.lemmas.List.Folds.{list_any_more}
 use Rattle.lgc_values.specs.declared.TheConstants.{MOST_VALUES}
-use Rattle.lgc_values.specs.Values.{values_where, has, members_of}
+use Rattle.lgc_values.specs.Values.{has, members_of}
 use Rattle.lgc_values.proofs.ValueLaws.{values_where-alike, has-values_where, with_law}
 use Rattle.lgc_parser.specs.declared.tree.Word.{Word}
 use Rattle.lgc_spec.specs.Words.{value_of}

@@ -1,6 +1,6 @@
 -- What the definition of a specification gives is a logic, where the names that it declares are plain.
-use Rattle.std.proofs.Common.{◌≡◌, ◌≢◌, ℕ, ◌+◌, ◌<◌, ◌≤◌, List, [], length, map, get_or, All, IfOk, Result, Ok, Err, refl, sym, arith}
-use Rattle.std.specs.List.{filter_map, AllPairs}
+use Rattle.std.proofs.Common.{◌≡◌, ℕ, ◌<◌, List, [], length, All, IfOk, Result, Ok, Err, refl, sym, arith}
+use Rattle.std.specs.List.{filter_map}
 use Rattle.std.proofs.lemmas.List.{append-nil}
 use Rattle.std.proofs.lemmas.List.Elements.{All-nil, All-map}
 use Rattle.lgc_values.specs.Values.{mask_of}

@@ -1,5 +1,5 @@
 -- Orderings: names, and links between values.
-use Rattle.std.specs.Prelude.{◌≡◌, ℕ, ◌+◌, Bool, List, [], ◌∷◌, map, zip, drop, filter_map, length, Option, Some, None, option_map, Result, Ok, Err, if◌then◌else◌}
+use Rattle.std.specs.Prelude.{◌≡◌, ℕ, ◌+◌, List, [], ◌∷◌, map, zip, drop, filter_map, length, Option, Some, None, option_map, Result, Ok, Err, if◌then◌else◌}
 use Rattle.std.specs.List.{flat_map}
 use Rattle.lgc_orders.specs.Order.{Leads, IsAntisymmetric, IsFirstCycle}
 use Rattle.lgc_parser.specs.declared.tree.Word.{Word}

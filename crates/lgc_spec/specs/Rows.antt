@@ -1,5 +1,5 @@
 -- How the reader of a mapping finds the place of a row: by the index of its arguments.
-use Rattle.std.specs.Prelude.{◌≡◌, ◌≢◌, MatchOption, ℕ, ◌+◌, ◌*◌, ◌^◌, ◌<◌, ◌==◌, List, [], ◌∷◌, ◌++◌, All, fold, length, map, Option, Some, None, unwrap_or, option_map, slice_index, if◌then◌else◌}
+use Rattle.std.specs.Prelude.{◌≡◌, ◌≢◌, MatchOption, ℕ, ◌+◌, ◌*◌, ◌^◌, ◌<◌, ◌==◌, List, [], ◌∷◌, ◌++◌, fold, length, Option, Some, unwrap_or, option_map, slice_index, if◌then◌else◌}
 use Rattle.lgc_parser.specs.declared.tree.Row.{Row}
 use Rattle.lgc_spec.specs.declared.fault.SpecFault.{SpecFault}
 use Rattle.lgc_spec.specs.declared.fault.TheConstants.{ROW_WIDTH}

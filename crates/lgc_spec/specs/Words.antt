@@ -1,5 +1,5 @@
 -- Words of the tree: what they say, and which value they name.
-use Rattle.std.specs.Prelude.{ℕ, ◌≤◌, ◌==◌, Bool, not, List, [], ◌∷◌, map, find, position, length, All, Option, Some, None, unwrap_or, option_map, slice_range, slice_index_or, if◌then◌else◌}
+use Rattle.std.specs.Prelude.{ℕ, ◌≤◌, Bool, not, List, [], map, find, position, Option, Some, None, unwrap_or, option_map, slice_range, slice_index_or, if◌then◌else◌}
 use Rattle.std.specs.Str.{bytes_eq}
 use Rattle.std.specs.List.{list_any}
 use Rattle.lgc_values.specs.Logic.{IsPlainName}

@@ -3,6 +3,7 @@ use crate::run::{Status, exit_number, run_multlog};
 use lgc_io::{MemoryFiles, MemorySink};
 use lgc_values::{List, Name};
 use std::alloc::{AllocError, Global};
+use std::process::Abort;
 use std::test::Fail;
 
 const TWO: &str = "truth_values {f,t}. designated_truth_values {t}. ";
@@ -96,169 +97,277 @@ const ACCEPTED: [(&str, &str, &str); 17] = [
     ),
 ];
 
-/// The head and the rest of a file, and its first fault: the number, the offset and what the line keeps.
-const FAULTS: [(&str, &str, &str); 86] = [
-    (TWO, "`", "1 at 49"),
-    (TWO, "a\u{e9}", "1 at 50"),
-    (TWO, "% \u{e9} `\n\x7f", "1 at 56"),
-    (TWO, "\x00", "1 at 49"),
-    (TWO, "/* \u{e9} */ 'a\tb'", "1 at 60"),
-    (TWO, "''", "1 at 50"),
-    (TWO, "'a\n", "1 at 51"),
-    (TWO, "'a", "2 at 49"),
-    (TWO, "\"a'", "2 at 49"),
-    (TWO, "/* * /", "2 at 49"),
-    (TWO, "/*/", "2 at 49"),
-    (TWO, "` '", "1 at 49"),
-    (TWO, "\" `", "2 at 49"),
-    ("", "truth_values {f,", "3 at 16"),
-    ("", "truth_values {,", "3 at 14"),
-    ("", "truth_values {f,t].", "3 at 17"),
-    ("", "truth_values {f t}.", "3 at 16"),
-    ("", "truth_values {f,t}", "3 at 18"),
-    ("", "values {f,t}.", "3 at 0"),
-    ("", "logic 3.", "3 at 6"),
-    (TWO, ".", "3 at 49"),
-    (TWO, "operator(Neg/1, mapping {(f):t, (t):f}).", "3 at 58"),
-    (TWO, "operator(neg/1a, mapping {(f):t, (t):f}).", "3 at 62"),
-    (TWO, "operator(neg/1, list {(f):t, (t):f}).", "3 at 65"),
-    (TWO, "operator(neg/1, mapping {(f):t, (t:f}).", "3 at 83"),
-    (TWO, "operator(neg/1, mapping {(f):t, }).", "3 at 81"),
-    (TWO, "operator(k/2, table [f,,t]).", "3 at 72"),
-    (TWO, "operator(k/2, inf o).", "3 at 67"),
-    (TWO, "ordering(o, o).", "3 at 61"),
-    (TWO, "quantifier(q, table []).", "3 at 63"),
-    ("", "truth_values {f,} `", "1 at 18"),
-    ("", "logic a. logic b. truth_values {a}.", "4 at 9"),
-    ("", "truth_values {a}. truth_values {a}.", "4 at 18"),
+/// The head and the rest of files whose tokens or grammar have a fault, and the line of the first one.
+const TEXT_FAULTS: [(&str, &str, &str); 31] = [
+    (TWO, "`", "spec fault 1 at 49\n"),
+    (TWO, "a\u{e9}", "spec fault 1 at 50\n"),
+    (TWO, "% \u{e9} `\n\x7f", "spec fault 1 at 56\n"),
+    (TWO, "\x00", "spec fault 1 at 49\n"),
+    (TWO, "/* \u{e9} */ 'a\tb'", "spec fault 1 at 60\n"),
+    (TWO, "''", "spec fault 1 at 50\n"),
+    (TWO, "'a\n", "spec fault 1 at 51\n"),
+    (TWO, "'a", "spec fault 2 at 49\n"),
+    (TWO, "\"a'", "spec fault 2 at 49\n"),
+    (TWO, "/* * /", "spec fault 2 at 49\n"),
+    (TWO, "/*/", "spec fault 2 at 49\n"),
+    (TWO, "` '", "spec fault 1 at 49\n"),
+    (TWO, "\" `", "spec fault 2 at 49\n"),
+    ("", "truth_values {f,", "spec fault 3 at 16\n"),
+    ("", "truth_values {,", "spec fault 3 at 14\n"),
+    ("", "truth_values {f,t].", "spec fault 3 at 17\n"),
+    ("", "truth_values {f t}.", "spec fault 3 at 16\n"),
+    ("", "truth_values {f,t}", "spec fault 3 at 18\n"),
+    ("", "values {f,t}.", "spec fault 3 at 0\n"),
+    ("", "logic 3.", "spec fault 3 at 6\n"),
+    (TWO, ".", "spec fault 3 at 49\n"),
+    (
+        TWO,
+        "operator(Neg/1, mapping {(f):t, (t):f}).",
+        "spec fault 3 at 58\n",
+    ),
+    (
+        TWO,
+        "operator(neg/1a, mapping {(f):t, (t):f}).",
+        "spec fault 3 at 62\n",
+    ),
+    (
+        TWO,
+        "operator(neg/1, list {(f):t, (t):f}).",
+        "spec fault 3 at 65\n",
+    ),
+    (
+        TWO,
+        "operator(neg/1, mapping {(f):t, (t:f}).",
+        "spec fault 3 at 83\n",
+    ),
+    (
+        TWO,
+        "operator(neg/1, mapping {(f):t, }).",
+        "spec fault 3 at 81\n",
+    ),
+    (TWO, "operator(k/2, table [f,,t]).", "spec fault 3 at 72\n"),
+    (TWO, "operator(k/2, inf o).", "spec fault 3 at 67\n"),
+    (TWO, "ordering(o, o).", "spec fault 3 at 61\n"),
+    (TWO, "quantifier(q, table []).", "spec fault 3 at 63\n"),
+    ("", "truth_values {f,} `", "spec fault 1 at 18\n"),
+];
+
+/// The head and the rest of files whose statements, truth values or orderings have a fault, and the line of the first one.
+const STATEMENT_FAULTS: [(&str, &str, &str); 26] = [
+    (
+        "",
+        "logic a. logic b. truth_values {a}.",
+        "spec fault 4 at 9\n",
+    ),
+    (
+        "",
+        "truth_values {a}. truth_values {a}.",
+        "spec fault 4 at 18\n",
+    ),
     (
         "",
         "designated_truth_values []. logic a. designated_truth_values {}. logic a.",
-        "4 at 37",
+        "spec fault 4 at 37\n",
     ),
-    ("", "", "5 at 0"),
-    ("", "truth_values {a,a}.", "5 at 19"),
-    ("", "designated_truth_values {a}. ", "5 at 29"),
+    ("", "", "spec fault 5 at 0\n"),
+    ("", "truth_values {a,a}.", "spec fault 5 at 19\n"),
+    ("", "designated_truth_values {a}. ", "spec fault 5 at 29\n"),
     (
         "",
         "truth_values {a}. designated_truth_values {a}.",
-        "6 at 0",
+        "spec fault 6 at 0\n",
     ),
     (
         "",
         "designated_truth_values {}. truth_values [].",
-        "6 at 28",
+        "spec fault 6 at 28\n",
     ),
     (
         "",
         "truth_values {a,b,c,d,e,f,g,h,i}. designated_truth_values {a}.",
-        "7 at 30",
+        "spec fault 7 at 30\n",
     ),
     (
         "",
         "truth_values {a,a,a,a,a,a,a,a,a,a}. designated_truth_values {a}.",
-        "7 at 30",
+        "spec fault 7 at 30\n",
     ),
     (
         "",
         "truth_values {a,b,'a',b}. designated_truth_values {c}.",
-        "8 at 18",
+        "spec fault 8 at 18\n",
     ),
     (
         "",
         "designated_truth_values {b,c,d}. truth_values {a,b}. ordering(o, \"`\").",
-        "9 at 27",
+        "spec fault 9 at 27\n",
     ),
-    (TWO, "ordering(o, \"\"). ordering('o', \"`\").", "10 at 75"),
-    (TWO, "ordering(o, \"f < `\").", "1 at 66"),
-    (TWO, "ordering(o, \"f < 't \u{e9}\").", "1 at 69"),
-    (TWO, "ordering(o, \"f < 't\").", "2 at 66"),
-    (TWO, "ordering(o, \"f /* < t\").", "2 at 64"),
-    (TWO, "ordering(o, \"f <\").", "3 at 65"),
-    (TWO, "ordering(o, \"f < {}\").", "3 at 67"),
-    (TWO, "ordering(o, \"f t\").", "3 at 64"),
-    (TWO, "ordering(o, \"f <= t\").", "3 at 64"),
-    (TWO, "ordering(o, \"f < t,\").", "3 at 68"),
-    (TWO, "ordering(o, \"f < {t,u} < v\").", "9 at 69"),
+    (
+        TWO,
+        "ordering(o, \"\"). ordering('o', \"`\").",
+        "spec fault 10 at 75\n",
+    ),
+    (TWO, "ordering(o, \"f < `\").", "spec fault 1 at 66\n"),
+    (
+        TWO,
+        "ordering(o, \"f < 't \u{e9}\").",
+        "spec fault 1 at 69\n",
+    ),
+    (TWO, "ordering(o, \"f < 't\").", "spec fault 2 at 66\n"),
+    (TWO, "ordering(o, \"f /* < t\").", "spec fault 2 at 64\n"),
+    (TWO, "ordering(o, \"f <\").", "spec fault 3 at 65\n"),
+    (TWO, "ordering(o, \"f < {}\").", "spec fault 3 at 67\n"),
+    (TWO, "ordering(o, \"f t\").", "spec fault 3 at 64\n"),
+    (TWO, "ordering(o, \"f <= t\").", "spec fault 3 at 64\n"),
+    (TWO, "ordering(o, \"f < t,\").", "spec fault 3 at 68\n"),
+    (
+        TWO,
+        "ordering(o, \"f < {t,u} < v\").",
+        "spec fault 9 at 69\n",
+    ),
     (
         "",
         "truth_values {f,u}. designated_truth_values {u}. ordering(o, \"f < u, u < f\").",
-        "19 at 61: (f,u)",
+        "spec fault 19 at 61: (f,u)\n",
     ),
     (
         THREE,
         "ordering(o, \"u < t, t < f < t\").",
-        "19 at 63: (f,t)",
+        "spec fault 19 at 63: (f,t)\n",
     ),
     (
         "",
         "truth_values {'a b',B,0}. designated_truth_values {}. ordering(o, \"'a b' < B < 0 < 'a b'\").",
-        "19 at 66: ('a b',B)",
+        "spec fault 19 at 66: ('a b',B)\n",
     ),
+];
+
+/// The head and the rest of files whose operators have a fault, or which have a quantifier, and the line of the first one.
+const OPERATOR_FAULTS: [(&str, &str, &str); 29] = [
     (
         TWO,
         "operator(k/0, mapping {():t}). operator('k'/9, mapping {}).",
-        "10 at 89",
+        "spec fault 10 at 89\n",
     ),
-    (TWO, "operator(k/5, mapping {}).", "11 at 60"),
+    (TWO, "operator(k/5, mapping {}).", "spec fault 11 at 60\n"),
     (
         TWO,
         "operator(k/0000000000000000000000000099, mapping {}).",
-        "11 at 60",
+        "spec fault 11 at 60\n",
     ),
-    (TWO, "operator(k/2, mapping {(t,f,t):t}).", "13 at 72"),
-    (TWO, "operator(k/2, mapping {t:u}).", "13 at 72"),
-    (TWO, "operator(k/0, mapping {t:t}).", "13 at 72"),
-    (TWO, "operator(k/1, mapping {f:t, ():v}).", "13 at 77"),
-    (TWO, "operator(k/1, mapping {f:t, (u):v}).", "9 at 78"),
-    (TWO, "operator(k/1, mapping {f:t, f:v}).", "9 at 79"),
-    (TWO, "operator(neg/1, mapping {(f):t, (f):t}).", "14 at 81"),
-    (TWO, "operator(k/0, mapping {():t, ():t}).", "14 at 78"),
-    (TWO, "operator(neg/1, mapping {(f):t}).", "15 at 79: (t)"),
-    (TWO, "operator(c/0, mapping []).", "15 at 72: ()"),
+    (
+        TWO,
+        "operator(k/2, mapping {(t,f,t):t}).",
+        "spec fault 13 at 72\n",
+    ),
+    (
+        TWO,
+        "operator(k/2, mapping {t:u}).",
+        "spec fault 13 at 72\n",
+    ),
+    (
+        TWO,
+        "operator(k/0, mapping {t:t}).",
+        "spec fault 13 at 72\n",
+    ),
+    (
+        TWO,
+        "operator(k/1, mapping {f:t, ():v}).",
+        "spec fault 13 at 77\n",
+    ),
+    (
+        TWO,
+        "operator(k/1, mapping {f:t, (u):v}).",
+        "spec fault 9 at 78\n",
+    ),
+    (
+        TWO,
+        "operator(k/1, mapping {f:t, f:v}).",
+        "spec fault 9 at 79\n",
+    ),
+    (
+        TWO,
+        "operator(neg/1, mapping {(f):t, (f):t}).",
+        "spec fault 14 at 81\n",
+    ),
+    (
+        TWO,
+        "operator(k/0, mapping {():t, ():t}).",
+        "spec fault 14 at 78\n",
+    ),
+    (
+        TWO,
+        "operator(neg/1, mapping {(f):t}).",
+        "spec fault 15 at 79: (t)\n",
+    ),
+    (
+        TWO,
+        "operator(c/0, mapping []).",
+        "spec fault 15 at 72: ()\n",
+    ),
     (
         TWO,
         "operator(k/2, mapping {(t,t):t,(f,f):t}).",
-        "15 at 87: (f,t)",
+        "spec fault 15 at 87: (f,t)\n",
     ),
     (
         "",
         "truth_values {+,b_1}. designated_truth_values {+}. operator(k/3, mapping {(+,+,+):+,(+,+,b_1):+}).",
-        "15 at 95: ('+',b_1,'+')",
+        "spec fault 15 at 95: ('+',b_1,'+')\n",
     ),
-    (TWO, "operator(k/1, table [f,t, f,t,t, t,f,t]).", "16 at 63"),
-    (TWO, "operator(k/2, table [f,t, f,t,t, t,f]).", "16 at 63"),
-    (TWO, "operator(k/2, table {}).", "16 at 63"),
-    (TWO, "operator(k/2, table [f,f, f,t,t, f,u,t]).", "9 at 84"),
-    (TWO, "operator(k/2, table [f,f, f,t,t, f,t,t]).", "17 at 72"),
-    (TWO, "operator(k/2, table [f,t, f,t,t, f,t,t]).", "17 at 82"),
-    (TWO, "operator(k/1, inf(o)).", "16 at 63"),
-    (TWO, "operator(k/3, sup(o)).", "16 at 63"),
-    (TWO, "operator(k/2, sup( o)).", "18 at 68"),
+    (
+        TWO,
+        "operator(k/1, table [f,t, f,t,t, t,f,t]).",
+        "spec fault 16 at 63\n",
+    ),
+    (
+        TWO,
+        "operator(k/2, table [f,t, f,t,t, t,f]).",
+        "spec fault 16 at 63\n",
+    ),
+    (TWO, "operator(k/2, table {}).", "spec fault 16 at 63\n"),
+    (
+        TWO,
+        "operator(k/2, table [f,f, f,t,t, f,u,t]).",
+        "spec fault 9 at 84\n",
+    ),
+    (
+        TWO,
+        "operator(k/2, table [f,f, f,t,t, f,t,t]).",
+        "spec fault 17 at 72\n",
+    ),
+    (
+        TWO,
+        "operator(k/2, table [f,t, f,t,t, f,t,t]).",
+        "spec fault 17 at 82\n",
+    ),
+    (TWO, "operator(k/1, inf(o)).", "spec fault 16 at 63\n"),
+    (TWO, "operator(k/3, sup(o)).", "spec fault 16 at 63\n"),
+    (TWO, "operator(k/2, sup( o)).", "spec fault 18 at 68\n"),
     (
         FOUR,
         "ordering(o, \"a < c, a < d, b < c, b < d\"). operator(j/2, sup(o)).",
-        "20 at 110: (a,b)",
+        "spec fault 20 at 110: (a,b)\n",
     ),
     (
         FOUR,
         "ordering(o, \"a < c, a < d, b < c, b < d\"). operator(j/2, inf(o)).",
-        "20 at 110: (a,b)",
+        "spec fault 20 at 110: (a,b)\n",
     ),
     (
         FOUR,
         "ordering(o, \"{a,b,c} < d\"). operator(j/2, inf('o')).",
-        "20 at 95: (a,b)",
+        "spec fault 20 at 95: (a,b)\n",
     ),
     (
         TWO,
         "quantifier(q, mapping {}). quantifier(r, mapping {}).",
-        "27 at 60",
+        "spec fault 27 at 60\n",
     ),
     (
         "",
         "quantifier(q, mapping {}). truth_values {f,t}. designated_truth_values {t}. operator(k/7, mapping {}).",
-        "11 at 87",
+        "spec fault 11 at 87\n",
     ),
 ];
 
@@ -343,16 +452,34 @@ fn prints_the_rules_of_accepted_files(rt: HostRuntime) -> Result<(), Fail> {
     Ok(())
 }
 
-#[test]
-fn tells_the_first_fault_of_other_files(rt: HostRuntime) -> Result<(), Fail> {
-    for (head, rest, fault) in FAULTS {
-        let left = calculus(rt.alloc(), head, rest)?;
-        let line = format!(in rt.alloc(); "spec fault {fault}\n")?;
+// Each file of the table is refused with its line, and nothing else is put.
+fn refuse_all(
+    rt: &impl Abort,
+    alloc: Global,
+    cases: &[(&str, &str, &str)],
+) -> Result<(), AllocError> {
+    for (head, rest, line) in cases {
+        let left = calculus(alloc, *head, *rest)?;
         assert!(rt; left.status == Status::BadSpec, "{head}{rest}");
         assert!(rt; left.out.bytes().is_empty(), "{head}{rest}");
         assert!(rt; left.err.bytes() == line.as_bytes(), "{head}{rest}");
     }
     Ok(())
+}
+
+#[test]
+fn tells_the_first_fault_of_texts(rt: HostRuntime) -> Result<(), Fail> {
+    Ok(refuse_all(&rt, rt.alloc(), &TEXT_FAULTS)?)
+}
+
+#[test]
+fn tells_the_first_fault_of_statements(rt: HostRuntime) -> Result<(), Fail> {
+    Ok(refuse_all(&rt, rt.alloc(), &STATEMENT_FAULTS)?)
+}
+
+#[test]
+fn tells_the_first_fault_of_operators(rt: HostRuntime) -> Result<(), Fail> {
+    Ok(refuse_all(&rt, rt.alloc(), &OPERATOR_FAULTS)?)
 }
 
 #[test]

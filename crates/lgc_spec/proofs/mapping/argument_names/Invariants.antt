@@ -1,4 +1,4 @@
-use Rattle.std.proofs.Common.{◌≡◌, take, map, length}
+use Rattle.std.proofs.Common.{◌≡◌, take, length}
 use Rattle.lgc_values.specs.Logic.{arguments_at}
 use Rattle.lgc_spec.specs.Words.{names_of}
 use Rattle.lgc_spec.proofs.mapping.argument_names.Given as goal

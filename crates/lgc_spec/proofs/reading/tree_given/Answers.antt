@@ -1,4 +1,3 @@
-use Rattle.std.proofs.Common.{sym}
 use Rattle.lgc_spec.proofs.PlainNames.{names_plain}
 use Rattle.lgc_spec.proofs.reading.tree_given.Goals as goal
 

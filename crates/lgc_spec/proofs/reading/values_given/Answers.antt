@@ -1,4 +1,4 @@
-use Rattle.std.proofs.Common.{length, arith}
+use Rattle.std.proofs.Common.{length}
 use Rattle.lgc_spec.specs.Words.{LiesIn}
 use Rattle.lgc_spec.proofs.FoundWords.{truth_words, designated_words}
 use Rattle.lgc_spec.proofs.reading.values_given.Goals as goal

@@ -1,6 +1,5 @@
-use Rattle.std.proofs.Common.{◌≡◌, ◌<◌, ◌≤◌, ◌+◌, ◌*◌, length, take, arith, ap, ◌∙◌}
+use Rattle.std.proofs.Common.{◌≡◌, ◌<◌, length, take, arith, ap, ◌∙◌}
 use Rattle.std.proofs.lemmas.List.{length-take-le}
-use Rattle.lgc_spec.specs.Words.{LiesIn}
 use Rattle.lgc_spec.proofs.TableLaws.{cell_within, few_cells, length-headings, headings_lie, result_is}
 use Rattle.lgc_spec.proofs.table.result_at.Goals as goal
 

@@ -1,4 +1,4 @@
-use Rattle.std.proofs.Common.{refl, length, ◌/◌, ◌%◌}
+use Rattle.std.proofs.Common.{length, ◌/◌, ◌%◌}
 use Rattle.lgc_spec.specs.Tables.{table_value}
 use Rattle.lgc_spec.proofs.TableLaws.{one_more_place}
 use Rattle.lgc_spec.proofs.table.results.Goals as goal
