@@ -1,8 +1,8 @@
--- Clauses and rules of operators: where they hold, and when they are exact.
+-- Clauses and rules of operators: where they are true, when a rule fits, and the order of clauses.
 use Rattle.std.specs.Prelude.{◌≡◌, ℕ, ◌<◌, ◌==◌, ◌||◌, Bool, true, false, List, [], ◌∷◌, length, All, AllPairs, map, nat_lt, if◌then◌else◌}
 use Rattle.std.specs.List.{list_all}
 use Rattle.lgc_values.specs.Values.{has, mask_of}
-use Rattle.lgc_values.specs.Logic.{Logic, operator_at, row_count, arguments_at, value_at}
+use Rattle.lgc_values.specs.Logic.{Logic, operator_at, arguments_at}
 
 -- whether some argument lies in the set at its place
 abbrev pub some_in : List (List ℕ) → List ℕ → Bool
@@ -28,10 +28,6 @@ pub record PlainRule : Type 0 where
 pub record Fits (logic : Logic) (rule : PlainRule) : Type 0 where
   pub operator : rule.op < length logic.operators
   pub width : All (λ sets. length sets ≡ (operator_at logic rule.op).arity) rule.clauses
-
--- at every row the operator's value lies in the sign exactly when every clause is true
-abbrev pub IsExact : Logic → PlainRule → Type 0
-IsExact logic rule = (row : ℕ) → row < row_count logic rule.op → all_hold logic.size rule.clauses row ≡ has rule.sign (value_at logic rule.op row)
 
 -- whether a list of numbers comes before another in the order of dictionaries
 abbrev pub is_before : List ℕ → List ℕ → Bool

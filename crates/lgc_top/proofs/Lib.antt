@@ -1,5 +1,1 @@
 pub mod Endings
-pub mod RowClauses
-pub mod RowRules
-pub mod RuleLists
-pub mod TextLaws

@@ -5,7 +5,7 @@ use Rattle.lgc_spec.specs.declared.fault.Law.{Law}
 use Rattle.lgc_spec.specs.declared.fault.Law.TheVariants.{Idempotent, Commutative, Associative}
 use Rattle.lgc_spec.specs.declared.fault.Kept.{Kept}
 use Rattle.lgc_spec.specs.declared.fault.Kept.TheVariants.{Nothing, Values, Broken, Set}
-use Rattle.lgc_top.specs.Text.{joined, value_text}
+use Rattle.lgc_print.specs.Text.{joined, value_text}
 
 -- `f,t`
 abbrev pub names_text : List (List ℕ) → List ℕ

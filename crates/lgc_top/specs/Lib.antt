@@ -1,4 +1,3 @@
-pub mod Text
 pub mod FaultLine
 pub mod Calculus
 pub mod Commands

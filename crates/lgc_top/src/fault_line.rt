@@ -2,12 +2,12 @@
 ghost use Rattle.std.specs.Prelude.{◌≡◌, ◌++◌, OnOk, IfOk};
 ghost use Rattle.lgc_top.specs.FaultLine.{names_text, row_text, law_text, kept_text, fault_line};
 
-use crate::text::{put_number, put_value};
+use lgc_print::{put_number, put_value};
 use lgc_spec::{Kept, Law};
 use lgc_values::Name;
 use std::alloc::{AllocError, Global};
 
-#[tactic(auto, using(std::proofs::lemmas::Grind::common_steps, crate::proofs::TextLaws::joined_more, crate::proofs::TextLaws::between_more))]
+#[tactic(auto, using(std::proofs::lemmas::Grind::common_steps, lgc_print::proofs::TextLaws::joined_more, lgc_print::proofs::TextLaws::between_more))]
 fn put_names(names: &[Name], into: &mut Vec<u8>) -> Result<(), AllocError>
     ensures { OnOk result (into.new.items ≡ into.old.items ++ names_text names.now) }
 {

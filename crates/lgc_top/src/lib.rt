@@ -5,8 +5,8 @@
 //! with the status [`Status::Done`] the output gains the text of a calculus of the file's logic, each
 //! rule of which is exact. `specs/Run.antt` says of every status when it comes and what is put under it.
 //!
-//! The rules (`calculus`), their text (`text`) and the line of a fault (`fault_line`) are private parts. `lgc_spec`
-//! reads the file.
+//! `lgc_spec` reads the file, `lgc_calculus` derives its rules and `lgc_print` prints them; the line of a fault (`fault_line`)
+//! is a private part.
 #![tactic(auto)]
 
 mod calculus;
@@ -14,6 +14,5 @@ mod fault_line;
 mod run;
 #[cfg(test)]
 mod tests;
-mod text;
 
 pub use run::{Status, exit_number, run_multlog};

@@ -1,7 +1,7 @@
 use Rattle.std.proofs.Common.{◌≡◌, ◌++◌, take}
 use Rattle.std.specs.Prelude.{codes, map}
-use Rattle.lgc_top.specs.Text.{joined, value_text}
-use Rattle.lgc_top.proofs.TextLaws.{between}
+use Rattle.lgc_print.specs.Text.{joined, value_text}
+use Rattle.lgc_print.proofs.TextLaws.{between}
 use Rattle.lgc_top.proofs.fault_line.put_names.Given as goal
 
 abbrev pub invariant-loop-name : goal.invariant-loop-name

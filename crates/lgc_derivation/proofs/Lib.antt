@@ -1,0 +1,6 @@
+pub mod Within
+pub mod Taking
+pub mod Order
+pub mod Inserting
+pub mod Removing
+pub mod Irredundance

@@ -1,0 +1,11 @@
+-- The rows before this one are told.
+use Rattle.std.proofs.Common.{ℕ, ◌<◌, ◌≡◌, false, length, get_or}
+use Rattle.lgc_values.specs.Values.{has}
+use Rattle.lgc_values.specs.Logic.{value_at}
+use Rattle.lgc_op_rules.proofs.table.OperatorTable.new.Given as goal
+
+abbrev pub invariant-loop-row : goal.invariant-loop-row
+invariant-loop-row g l = record {
+  count : length l.inside.items ≡ l.row;
+  told : (row : ℕ) → row < l.row → get_or l.inside.items row false ≡ has l.sign (value_at l.m l.op row);
+}
