@@ -1,1 +1,4 @@
 pub mod Endings
+pub mod Meanings
+pub mod Stops
+pub mod Judging

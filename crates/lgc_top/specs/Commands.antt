@@ -5,13 +5,34 @@ use Rattle.std.specs.Cmp.Lexicographic.{pointwise}
 pub data Command : Type 0 where
   -- print the calculus of the specification in the file of this name
   Calculus : List ℕ → Command
+  -- tell for each rule of the second file whether it is right for the logic of the first
+  Verify : List ℕ → List ℕ → Command
+
+-- the name of the file of the specification
+abbrev pub spec_of : Command → List ℕ
+spec_of (Calculus spec) = spec
+spec_of (Verify spec rules) = spec
+
+-- the name of the second file
+abbrev pub input_of : Command → Option (List ℕ)
+input_of (Calculus spec) = None
+input_of (Verify spec rules) = Some rules
 
 -- nonempty, and not beginning with `-`
 abbrev pub is_file_name : List ℕ → Bool
 is_file_name [] = false
 is_file_name (b ∷ rest) = not (pointwise nat_eq (b ∷ []) (codes "-"))
 
+-- the command of a word and one file
+abbrev pub command_on : List ℕ → List ℕ → Option Command
+command_on word spec = if pointwise nat_eq word (codes "calculus") && is_file_name spec then Some (Calculus spec) else None
+
+-- the command of a word and two files
+abbrev pub command_on_both : List ℕ → List ℕ → List ℕ → Option Command
+command_on_both word spec input = if pointwise nat_eq word (codes "verify") && (is_file_name spec && is_file_name input) then Some (Verify spec input) else None
+
 -- the command of a list of words, and None where they are no command
 abbrev pub command_of : List (List ℕ) → Option Command
-command_of (word ∷ file ∷ []) = if pointwise nat_eq word (codes "calculus") && is_file_name file then Some (Calculus file) else None
+command_of (word ∷ spec ∷ []) = command_on word spec
+command_of (word ∷ spec ∷ input ∷ []) = command_on_both word spec input
 command_of words = None

@@ -1,4 +1,4 @@
--- The line of a specification's fault.
+-- The lines of faults.
 use Rattle.std.specs.Prelude.{ℕ, List, [], ◌++◌, map, codes}
 use Rattle.std.specs.Fmt.{decimal}
 use Rattle.lgc_spec.specs.declared.fault.Law.{Law}
@@ -30,3 +30,11 @@ kept_text (Set names) = codes ": {" ++ names_text names ++ codes "}"
 -- `spec fault 15 at 72: (t)` and a line feed
 unfoldable pub fault_line : ℕ → ℕ → Kept → List ℕ
 fault_line number offset kept = codes "spec fault " ++ decimal number ++ codes " at " ++ decimal offset ++ kept_text kept ++ codes "\n"
+
+-- `input fault 4 at 10` and a line feed
+unfoldable pub input_line : ℕ → ℕ → List ℕ
+input_line number offset = codes "input fault " ++ decimal number ++ codes " at " ++ decimal offset ++ codes "\n"
+
+-- `read fault: q.txt` and a line feed
+abbrev pub read_line : List ℕ → List ℕ
+read_line file = codes "read fault: " ++ file ++ codes "\n"

@@ -1,4 +1,6 @@
 pub mod FaultLine
 pub mod Calculus
+pub mod Verify
 pub mod Commands
 pub mod Run
+pub mod Steps

@@ -1,19 +1,27 @@
 -- What a run answers, and what stands in its sinks after it.
-use Rattle.std.specs.Prelude.{◌≡◌, ◌⊎◌, ℕ, List, ◌++◌, Some, None, Result, Ok, Err, IsSomeAnd, codes}
+use Rattle.std.specs.Prelude.{◌≡◌, ◌⊎◌, ℕ, Bool, true, false, List, All, map, Option, Some, None, Result, Ok, Err, IsSomeAnd, codes}
 use Rattle.lgc_io.specs.Faults.{Rose}
 use Rattle.lgc_io.specs.Files.{FilesState, Holds, FailsAt, file_at}
 use Rattle.lgc_io.specs.Sinks.{SinkState, Takes, TakesPart}
+use Rattle.lgc_values.specs.Logic.{Logic}
+use Rattle.lgc_clauses.specs.declared.rule.Rule.{Rule}
+use Rattle.lgc_clauses.specs.Exactness.{any_rule}
 use Rattle.lgc_spec.specs.declared.spec.Spec.{Spec}
 use Rattle.lgc_spec.specs.declared.fault.Kept.{Kept}
 use Rattle.lgc_spec.specs.declared.fault.SpecFault.{SpecFault}
 use Rattle.lgc_spec.specs.declared.fault.SpecFault.TheVariants.{Fault}
 use Rattle.lgc_spec.specs.Logics.{logic_of}
 use Rattle.lgc_spec.specs.Specification.{BytesGive}
-use Rattle.lgc_top.specs.declared.run.Status.{Status}
-use Rattle.lgc_top.specs.declared.run.Status.TheVariants.{Done, Usage, BadSpec, ReadFault, WriteFault, Memory}
-use Rattle.lgc_top.specs.FaultLine.{fault_line}
+use Rattle.lgc_syntax.specs.declared.fault.InputFault.{InputFault}
+use Rattle.lgc_syntax.specs.declared.fault.InputFault.TheVariants as input
+use Rattle.lgc_rules.specs.RuleFile.{file_read}
+use Rattle.lgc_verify.specs.Verdicts.{IsRight}
+use Rattle.lgc_top.specs.declared.status.Status.{Status}
+use Rattle.lgc_top.specs.declared.status.Status.TheVariants.{Done, Usage, BadSpec, BadInput, Rejected, ReadFault, WriteFault, Memory}
+use Rattle.lgc_top.specs.FaultLine.{fault_line, input_line, read_line}
 use Rattle.lgc_top.specs.Calculus.{IsCalculusText}
-use Rattle.lgc_top.specs.Commands.{Calculus, command_of}
+use Rattle.lgc_top.specs.Verify.{RulesGiven, IsVerdictText}
+use Rattle.lgc_top.specs.Commands.{Command, Calculus, Verify, spec_of, input_of, command_of}
 
 -- a run: its words, and its files and sinks before and after it
 pub record Run : Type 0 where
@@ -29,22 +37,24 @@ abbrev pub run_of : List (List ℕ) → FilesState → FilesState → SinkState 
 run_of words files files_after out out_after err err_after =
     record { words = words; files = files; files_after = files_after; out = out; out_after = out_after; err = err; err_after = err_after }
 
--- the words ask for the calculus of this file, and the file has these bytes
-pub record AsksFor (run : Run) (bytes : List ℕ) : Type 0 where
-  pub file : List ℕ
-  pub command : command_of run.words ≡ Some (Calculus file)
-  pub held : Holds run.files file bytes
+-- ---- what a command finds in its files
 
--- the words ask for the calculus of this file, and its read failed
-pub record MissesFile (run : Run) (file : List ℕ) : Type 0 where
-  pub command : command_of run.words ≡ Some (Calculus file)
-  pub failed : FailsAt run.files run.files_after file
-
--- the bytes of a specification give a logic, and the text is a calculus of it
-pub record IsCalculusOf (bytes text : List ℕ) : Type 0 where
-  pub spec : Spec
+-- the first file has bytes that give this logic
+pub record HasSpec (command : Command) (files : FilesState) (spec : Spec) : Type 0 where
+  pub bytes : List ℕ
+  pub held : Holds files (spec_of command) bytes
   pub given : BytesGive bytes (Ok spec)
-  pub printed : IsCalculusText (logic_of spec) text
+
+-- the first file gives this logic, and the second has these bytes
+pub record HasInput (command : Command) (files : FilesState) (spec : Spec) (bytes : List ℕ) : Type 0 where
+  pub logic : HasSpec command files spec
+  pub file : List ℕ
+  pub named : input_of command ≡ Some file
+  pub held : Holds files file bytes
+
+-- the file is read: the first one always, and the second where the first gives a logic
+abbrev pub IsRead : Command → FilesState → List ℕ → Type 0
+IsRead command files file = (file ≡ spec_of command) ⊎ ((input_of command ≡ Some file) × ((spec : Spec) × HasSpec command files spec))
 
 -- the bytes of a specification have this first fault, and the line tells it
 pub record IsFaultOf (bytes line : List ℕ) : Type 0 where
@@ -54,18 +64,47 @@ pub record IsFaultOf (bytes line : List ℕ) : Type 0 where
   pub given : BytesGive bytes (Err (Fault number offset kept))
   pub told : line ≡ fault_line number offset kept
 
--- each status with its cause, and with the bytes that are put under it
-abbrev pub Answers : Run → Status → List ℕ → Type 0
-Answers run Usage bytes = (command_of run.words ≡ None) × (bytes ≡ codes "usage: multlog COMMAND ARGUMENTS\n")
-Answers run ReadFault bytes = (file : List ℕ) × MissesFile run file × (bytes ≡ codes "read fault: " ++ file ++ codes "\n")
-Answers run BadSpec bytes = (spec : List ℕ) × AsksFor run spec × IsFaultOf spec bytes
-Answers run Done bytes = (spec : List ℕ) × AsksFor run spec × IsCalculusOf spec bytes
-Answers run WriteFault bytes = ⊥
-Answers run Memory bytes = ⊥
+-- the bytes of the second file have this first fault
+abbrev pub HasInputFault : Command → Logic → List ℕ → ℕ → ℕ → Type 0
+HasInputFault (Calculus _) logic bytes number offset = ⊥
+HasInputFault (Verify _ _) logic bytes number offset = RulesGiven logic bytes (Err (input.Fault number offset))
 
--- one sink takes what is put, and the other stays as it was: `out` with the status Done, and else `err`
+-- the same, and the line tells it
+pub record IsInputFaultOf (command : Command) (logic : Logic) (bytes line : List ℕ) : Type 0 where
+  pub number : ℕ
+  pub offset : ℕ
+  pub given : HasInputFault command logic bytes number offset
+  pub told : line ≡ input_line number offset
+
+-- ---- what a command answers
+
+-- each status that the work of a command ends with, and the bytes that are put under it
+abbrev pub Works : Command → FilesState → Status → List ℕ → Type 0
+Works (Calculus file) files Done text = (spec : Spec) × HasSpec (Calculus file) files spec × IsCalculusText (logic_of spec) text
+Works (Verify file rules) files Done text = (spec : Spec) × (bytes : List ℕ) × HasInput (Verify file rules) files spec bytes × IsVerdictText (logic_of spec) true bytes text
+Works (Verify file rules) files Rejected text = (spec : Spec) × (bytes : List ℕ) × HasInput (Verify file rules) files spec bytes × IsVerdictText (logic_of spec) false bytes text
+Works command files status text = ⊥
+
+-- each status of a command with its cause, and with the bytes that are put under it
+abbrev pub CommandAnswers : Command → FilesState → FilesState → Status → List ℕ → Type 0
+CommandAnswers command files files_after ReadFault line = (file : List ℕ) × IsRead command files file × FailsAt files files_after file × (line ≡ read_line file)
+CommandAnswers command files files_after BadSpec line = (bytes : List ℕ) × Holds files (spec_of command) bytes × IsFaultOf bytes line
+CommandAnswers command files files_after BadInput line = (spec : Spec) × (bytes : List ℕ) × HasInput command files spec bytes × IsInputFaultOf command (logic_of spec) bytes line
+CommandAnswers command files files_after status text = Works command files status text
+
+-- the same for words that may be no command
+abbrev pub WordsAnswer : Option Command → FilesState → FilesState → Status → List ℕ → Type 0
+WordsAnswer None files files_after Usage line = line ≡ codes "usage: multlog COMMAND ARGUMENTS\n"
+WordsAnswer None files files_after status line = ⊥
+WordsAnswer (Some command) files files_after status bytes = CommandAnswers command files files_after status bytes
+
+abbrev pub Answers : Run → Status → List ℕ → Type 0
+Answers run status bytes = WordsAnswer (command_of run.words) run.files run.files_after status bytes
+
+-- one sink takes what is put, and the other stays as it was: `out` with the statuses Done and Rejected, and else `err`
 abbrev pub Puts : Run → Status → (SinkState → SinkState → Type 0) → Type 0
 Puts run Done Put = Put run.out run.out_after × (run.err_after ≡ run.err)
+Puts run Rejected Put = Put run.out run.out_after × (run.err_after ≡ run.err)
 Puts run status Put = Put run.err run.err_after × (run.out_after ≡ run.out)
 
 -- What stands after a run: all bytes of its answer, or after a failed put the first of them, or nothing where memory ran out.
@@ -74,41 +113,80 @@ Ends run WriteFault = (status : Status) × (bytes : List ℕ) × Answers run sta
 Ends run Memory = (run.out_after ≡ run.out) × (run.err_after ≡ run.err)
 Ends run status = (bytes : List ℕ) × Answers run status bytes × Puts run status (λ old new. Takes old new bytes)
 
+-- the output gained the calculus of the specification in this file
+pub record PrintsCalculus (run : Run) (file : List ℕ) : Type 0 where
+  pub spec : Spec
+  pub asked : HasSpec (Calculus file) run.files spec
+  pub text : List ℕ
+  pub calculus : IsCalculusText (logic_of spec) text
+  pub printed : Takes run.out run.out_after text
+
+-- the output gained the lines on the rules in the second file, and `right` tells whether all of them are right
+pub record PrintsVerdicts (run : Run) (file rules : List ℕ) (right : Bool) : Type 0 where
+  pub spec : Spec
+  pub bytes : List ℕ
+  pub asked : HasInput (Verify file rules) run.files spec bytes
+  pub text : List ℕ
+  pub verdicts : IsVerdictText (logic_of spec) right bytes text
+  pub printed : Takes run.out run.out_after text
+
+-- ---- what a run is meant to end with
+
 -- no count of faults rose
 pub record IsFaultless (run : Run) : Type 0 where
   pub files : Rose run.files.faults run.files_after.faults → ⊥
   pub out : Rose run.out.faults run.out_after.faults → ⊥
   pub err : Rose run.err.faults run.err_after.faults → ⊥
 
--- the words ask for the calculus of a file that the files tell, and this is what its bytes give
-pub record Finds (run : Run) (found : Result Spec SpecFault) : Type 0 where
-  pub file : List ℕ
-  pub command : command_of run.words ≡ Some (Calculus file)
-  pub bytes : List ℕ
-  pub told : IsSomeAnd run.files.told (λ told. file_at told file ≡ Some bytes)
-  pub gives : BytesGive bytes found
+-- the files are told, and the file of this name has these bytes
+abbrev pub Tells : FilesState → List ℕ → List ℕ → Type 0
+Tells files file bytes = IsSomeAnd files.told (λ told. file_at told file ≡ Some bytes)
 
--- a logic is answered with Done, and a fault with BadSpec
-abbrev pub meant_by : Result Spec SpecFault → Status
-meant_by (Ok spec) = Done
-meant_by (Err fault) = BadSpec
+-- What the bytes of a rule file mean: a fault BadInput, and rules Done or Rejected, by whether all of them are right.
+abbrev pub RulesMean : (logic : Logic) → Result (List (Rule logic.size)) InputFault → Status → Type 0
+RulesMean logic (Err fault) status = status ≡ BadInput
+RulesMean logic (Ok rules) Done = All (IsRight logic) (map any_rule rules)
+RulesMean logic (Ok rules) Rejected = All (IsRight logic) (map any_rule rules) → ⊥
+RulesMean logic (Ok rules) status = ⊥
 
--- the output gained the calculus of the specification that the words ask for
-pub record PrintsCalculus (run : Run) : Type 0 where
-  pub spec : List ℕ
-  pub asked : AsksFor run spec
-  pub text : List ℕ
-  pub calculus : IsCalculusOf spec text
-  pub printed : Takes run.out run.out_after text
+-- What a logic means for a command, where `Has` says which bytes a file has.
+abbrev pub LogicMeans : (List ℕ → List ℕ → Type 0) → Command → Logic → Status → Type 0
+LogicMeans Has (Calculus file) logic status = status ≡ Done
+LogicMeans Has (Verify file rules) logic status = (bytes : List ℕ) × Has rules bytes × RulesMean logic (file_read logic.size logic bytes) status
+
+-- What the bytes of a specification mean: a fault BadSpec, and else what its logic means.
+abbrev pub SpecMeans : (List ℕ → List ℕ → Type 0) → Command → Result Spec SpecFault → Status → Type 0
+SpecMeans Has command (Err fault) status = status ≡ BadSpec
+SpecMeans Has command (Ok spec) status = LogicMeans Has command (logic_of spec) status
+
+-- What the files of a command mean.
+abbrev pub CommandMeans : (List ℕ → List ℕ → Type 0) → Command → Status → Type 0
+CommandMeans Has command status = (bytes : List ℕ) × (found : Result Spec SpecFault) × Has (spec_of command) bytes × BytesGive bytes found × SpecMeans Has command found status
+
+-- the words are a command, and its files are told and mean this status
+pub record Means (run : Run) (status : Status) : Type 0 where
+  pub command : Command
+  pub asked : command_of run.words ≡ Some command
+  pub meant : CommandMeans (Tells run.files) command status
+
+-- ---- numbers, and single puts
 
 -- the number that the process ends with
 abbrev pub number_of : Status → ℕ
 number_of Done = 0
 number_of Usage = 2
 number_of BadSpec = 3
+number_of BadInput = 4
+number_of Rejected = 5
 number_of ReadFault = 6
 number_of WriteFault = 7
 number_of Memory = 8
+
+-- whether the bytes are put to `out`
+abbrev pub goes_out : Status → Bool
+goes_out Done = true
+goes_out Rejected = true
+goes_out status = false
 
 -- after a put to a sink: the status that was meant, or the one that the put gave
 abbrev pub AfterPut : SinkState → SinkState → List ℕ → Status → Status → Type 0

@@ -1,6 +1,6 @@
-// The line of a specification's fault.
+// The lines of faults.
 ghost use Rattle.std.specs.Prelude.{◌≡◌, ◌++◌, OnOk, IfOk};
-ghost use Rattle.lgc_top.specs.FaultLine.{names_text, row_text, law_text, kept_text, fault_line};
+ghost use Rattle.lgc_top.specs.FaultLine.{names_text, row_text, law_text, kept_text, fault_line, input_line, read_line};
 
 use lgc_print::{put_number, put_value};
 use lgc_spec::{Kept, Law};
@@ -79,6 +79,31 @@ pub(crate) fn fault_line(
     line.extend_from_slice(b" at ")?;
     put_number(alloc, offset, &mut line)?;
     put_kept(kept, &mut line)?;
+    line.push(b'\n')?;
+    Ok(line)
+}
+
+/// The line of an input fault with this number, at this offset.
+#[tactic(auto, unfolding(crate::specs::FaultLine::input_line))]
+pub(crate) fn input_line(alloc: Global, number: u8, offset: u32) -> Result<Vec<u8>, AllocError>
+    ensures { IfOk result (λ line. line.items ≡ input_line number offset) }
+{
+    let mut line = Vec::new(alloc);
+    line.extend_from_slice(b"input fault ")?;
+    put_number(alloc, u32::from(number), &mut line)?;
+    line.extend_from_slice(b" at ")?;
+    put_number(alloc, offset, &mut line)?;
+    line.push(b'\n')?;
+    Ok(line)
+}
+
+/// The line that says that the file of this name couldn't be read.
+pub(crate) fn read_line(alloc: Global, name: &str) -> Result<Vec<u8>, AllocError>
+    ensures { IfOk result (λ line. line.items ≡ read_line name.now) }
+{
+    let mut line = Vec::new(alloc);
+    line.extend_from_slice(b"read fault: ")?;
+    line.extend_from_slice(name.as_bytes())?;
     line.push(b'\n')?;
     Ok(line)
 }

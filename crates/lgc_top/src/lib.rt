@@ -1,18 +1,24 @@
 //! The top call: from the words of a command line, and the bytes of the file that they name, to the
 //! bytes that are put and the status of the run.
 //!
-//! [`run_multlog`] is the one call that the program makes. Its contract is the promise of the whole:
-//! with the status [`Status::Done`] the output gains the text of a calculus of the file's logic, each
-//! rule of which is exact. `specs/Run.antt` says of every status when it comes and what is put under it.
+//! [`run_multlog`] is the one call that the program makes. Its contract is the promise of the whole: with the status
+//! [`Status::Done`] the output of `calculus` gains the text of a calculus of the file's logic, each rule of which is exact,
+//! and that of `verify` the verdicts on the rules of a file. `specs/Run.antt` says of every status when it comes and what is
+//! put under it.
 //!
-//! `lgc_spec` reads the file, `lgc_calculus` derives its rules and `lgc_print` prints them; the line of a fault (`fault_line`)
-//! is a private part.
+//! The words are told apart in `command`, and the files are read and the answer is made in `answer`, in the order of refusals:
+//! the first file, its faults, the second file, its faults, and then the work (`work`). `lgc_spec` reads the specification and
+//! `lgc_rules` the rules, `lgc_calculus` derives rules, `lgc_print` prints them, and `lgc_verify` judges them.
 #![tactic(auto)]
 
-mod calculus;
+mod answer;
+mod command;
 mod fault_line;
 mod run;
+mod status;
 #[cfg(test)]
 mod tests;
+mod work;
 
-pub use run::{Status, exit_number, run_multlog};
+pub use run::run_multlog;
+pub use status::{Status, exit_number};

@@ -1,5 +1,8 @@
 // The answers of the top call, as tables. The expected bytes were derived by hand.
-use crate::run::{Status, exit_number, run_multlog};
+ghost use Rattle.std.specs.Prelude.{◌≡◌, IfOk, [], ◌∷◌, codes};
+
+use crate::run::run_multlog;
+use crate::status::{Status, exit_number};
 use lgc_io::{MemoryFiles, MemorySink};
 use lgc_values::{List, Name};
 use std::alloc::{AllocError, Global};
@@ -378,7 +381,7 @@ const OPERATOR_FAULTS: [(&str, &str, &str); 29] = [
 ];
 
 /// Words that are no command.
-const NO_COMMANDS: [&[&str]; 8] = [
+const NO_COMMANDS: [&[&str]; 10] = [
     &[],
     &[""],
     &["calculus"],
@@ -387,6 +390,63 @@ const NO_COMMANDS: [&[&str]; 8] = [
     &["calculus", "l.lgc", "l.lgc"],
     &["Calculus", "l.lgc"],
     &["verify", "l.lgc"],
+    &["verify", "l.lgc", "-r.txt"],
+    &["verify", "", "r.txt"],
+];
+
+const L3: &str =
+    "logic \"Lukasiewicz 3\".\ntruth_values {f,u,t}.\ndesignated_truth_values {t}.\nordering(linear, \"f < u < t\").\noperator(neg/1, mapping {(f):t, (u):u, (t):f}).\noperator(and/2, inf(linear)).\noperator(or/2, sup(linear)).\noperator(imp/2, table [\n      f, u, t,\n  f,  t, t, t,\n  u,  u, t, t,\n  t,  f, u, t]).\n";
+
+/// Rules for L3, and the lines on them.
+const JUDGED: [(&str, Status, &str); 5] = [
+    (
+        "rule 1: operator neg/1 at {f}: [1^{u,t}].\nrule 2: operator imp/2 at {f}: [2^{f}; 1^{t}; 1^{t}].\nrule 3: operator imp/2 at {f}: [1^{t}; 1^{f}, 2^{f}].\nrule 4: operator imp/2 at {f}: [2^{f}; 1^{t}].\n",
+        Status::Rejected,
+        "rule 1: differs at (u).\nrule 2: clause 2 is superfluous.\nrule 3: value f of argument 1 in clause 2 is superfluous.\nrule 4: right.\n",
+    ),
+    ("", Status::Done, ""),
+    (
+        "rule 1: operator neg/1 at {u}: [1^{u}].",
+        Status::Done,
+        "rule 1: right.\n",
+    ),
+    (
+        "rule 1: operator imp/2 at {f}: [2^{f}; 1^{t}]. rule 2: operator imp/2 at {f}: [0].",
+        Status::Rejected,
+        "rule 1: right.\nrule 2: differs at (t,f).\n",
+    ),
+    (
+        "rule 1: operator imp/2 at {f}: []. rule 2: operator neg/1 at {f}: [1^{t}].",
+        Status::Rejected,
+        "rule 1: differs at (f,f).\nrule 2: right.\n",
+    ),
+];
+
+/// Rules for L3 with a fault, and the line of the first one.
+const INPUT_FAULTS: [(&str, &str); 8] = [
+    ("`", "input fault 2 at 0\n"),
+    ("'a", "input fault 3 at 0\n"),
+    ("rule 1", "input fault 4 at 6\n"),
+    (
+        "rule 1: operator nag/1 at {f}: [].",
+        "input fault 5 at 17\n",
+    ),
+    (
+        "rule 1: operator neg/2 at {f}: [].",
+        "input fault 6 at 21\n",
+    ),
+    (
+        "rule 1: operator neg/1 at {v}: [].",
+        "input fault 10 at 27\n",
+    ),
+    (
+        "rule 1: operator neg/1 at {f}: [2^{t}].",
+        "input fault 11 at 32\n",
+    ),
+    (
+        "rule 2: operator neg/1 at {f}: [1^{t}].",
+        "input fault 12 at 5\n",
+    ),
 ];
 
 const CALCULUS: &[&str] = &["calculus", "l.lgc"];
@@ -418,11 +478,33 @@ fn failing_at(alloc: Global, room: Option<usize>) -> Result<List<(u64, usize)>, 
     Ok(failing)
 }
 
-/// A run of the words over one file, `l.lgc`. The listed reads fail, and the first put with `room`.
-fn run(
+fn name_of(alloc: Global, text: &[u8]) -> Result<Name, AllocError>
+    ensures { IfOk result (λ name. name ≡ text.now) }
+{
+    Name::of_bytes(alloc, text)
+}
+
+fn contents(alloc: Global, bytes: &[u8]) -> Result<List<u8>, AllocError>
+    ensures { IfOk result (λ copy. copy ≡ bytes.now) }
+{
+    Ok(List::of_vec(Vec::from_slice(alloc, bytes)?))
+}
+
+// The files `l.lgc` and `r.txt`.
+fn files_of(alloc: Global, spec: &[u8], rules: &[u8]) -> Result<List<(Name, List<u8>)>, AllocError>
+    ensures { IfOk result (λ files. files ≡ (codes "l.lgc", spec.now) ∷ (codes "r.txt", rules.now) ∷ []) }
+{
+    let first = (name_of(alloc, b"l.lgc")?, contents(alloc, spec)?);
+    let second = (name_of(alloc, b"r.txt")?, contents(alloc, rules)?);
+    Ok(List::of_vec(vec![in alloc; first, second]?))
+}
+
+/// A run of the words over the files `l.lgc` and `r.txt`. The listed reads fail, and the first put with `room`.
+fn run_on(
     alloc: Global,
     words: &[&str],
     spec: &[u8],
+    rules: &[u8],
     failing: List<u64>,
     room: Option<usize>,
 ) -> Result<Left, AllocError> {
@@ -430,14 +512,34 @@ fn run(
     for word in words {
         owned.push(String::from_str(alloc, word)?)?;
     }
-    let mut listed = List::new(alloc);
-    let name = Name::of_bytes(alloc, b"l.lgc")?;
-    listed.push((name, List::of_vec(Vec::from_slice(alloc, spec)?)))?;
-    let mut files = MemoryFiles::new(alloc, listed, failing);
+    let mut files = MemoryFiles::new(alloc, files_of(alloc, spec, rules)?, failing);
     let mut out = MemorySink::new(alloc, failing_at(alloc, room)?);
     let mut err = MemorySink::new(alloc, failing_at(alloc, room)?);
     let status = run_multlog(alloc, &owned, &mut files, &mut out, &mut err);
     Ok(Left { status, out, err })
+}
+
+/// A run of the words over a specification, `l.lgc`, and an empty rule file.
+fn run(
+    alloc: Global,
+    words: &[&str],
+    spec: &[u8],
+    failing: List<u64>,
+    room: Option<usize>,
+) -> Result<Left, AllocError> {
+    run_on(alloc, words, spec, b"", failing, room)
+}
+
+/// The run of `verify l.lgc r.txt` over these files, in which the read of this number fails.
+fn verify(alloc: Global, spec: &str, rules: &str, failing: u64) -> Result<Left, AllocError> {
+    run_on(
+        alloc,
+        &["verify", "l.lgc", "r.txt"],
+        spec.as_bytes(),
+        rules.as_bytes(),
+        List::of_vec(vec![in alloc; failing]?),
+        None,
+    )
 }
 
 /// The run of `calculus l.lgc` over a file of two pieces.
@@ -595,11 +697,54 @@ fn puts_nothing_where_there_is_no_operator(rt: HostRuntime) -> Result<(), Fail> 
 }
 
 #[test]
+fn judges_rules(rt: HostRuntime) -> Result<(), Fail> {
+    for (rules, status, out) in JUDGED {
+        let left = verify(rt.alloc(), L3, rules, 9)?;
+        assert!(rt; left.status == status, "{rules}");
+        assert!(rt; left.out.bytes() == out.as_bytes(), "{rules}");
+        assert!(rt; left.err.bytes().is_empty(), "{rules}");
+    }
+    Ok(())
+}
+
+#[test]
+fn tells_the_first_fault_of_rules(rt: HostRuntime) -> Result<(), Fail> {
+    for (rules, line) in INPUT_FAULTS {
+        let left = verify(rt.alloc(), L3, rules, 9)?;
+        assert!(rt; left.status == Status::BadInput, "{rules}");
+        assert!(rt; left.out.bytes().is_empty(), "{rules}");
+        assert!(rt; left.err.bytes() == line.as_bytes(), "{rules}");
+    }
+    Ok(())
+}
+
+/// The first file is read before the second one, and its fault is told first.
+#[test]
+fn reads_two_files_in_order(rt: HostRuntime) -> Result<(), Fail> {
+    for (spec, rules, failing, status, err) in [
+        (L3, "`", 1, Status::ReadFault, "read fault: l.lgc\n"),
+        (L3, "`", 2, Status::ReadFault, "read fault: r.txt\n"),
+        ("", "", 2, Status::BadSpec, "spec fault 5 at 0\n"),
+        ("", "`", 3, Status::BadSpec, "spec fault 5 at 0\n"),
+        (L3, "`", 3, Status::BadInput, "input fault 2 at 0\n"),
+        (L3, "", 3, Status::Done, ""),
+    ] {
+        let left = verify(rt.alloc(), spec, rules, failing)?;
+        assert!(rt; left.status == status, "{spec}{failing}");
+        assert!(rt; left.out.bytes().is_empty(), "{spec}{failing}");
+        assert!(rt; left.err.bytes() == err.as_bytes(), "{spec}{failing}");
+    }
+    Ok(())
+}
+
+#[test]
 fn numbers_the_statuses(rt: HostRuntime) {
     for (status, number) in [
         (Status::Done, 0),
         (Status::Usage, 2),
         (Status::BadSpec, 3),
+        (Status::BadInput, 4),
+        (Status::Rejected, 5),
         (Status::ReadFault, 6),
         (Status::WriteFault, 7),
         (Status::Memory, 8),

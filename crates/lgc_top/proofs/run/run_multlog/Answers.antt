@@ -1,8 +1,15 @@
-use Rattle.lgc_top.proofs.Endings.{prints_calculus, completes}
+use Rattle.lgc_top.proofs.Endings.{prints_calculus, prints_right, prints_rejected}
+use Rattle.lgc_top.proofs.Meanings.{completes}
 use Rattle.lgc_top.proofs.run.run_multlog.Goals as goal
 
 pub returns-clause-calculus : goal.returns-clause-calculus
-returns-clause-calculus g c = prints_calculus _ _ c.run_words.ensures
+returns-clause-calculus g c file = prints_calculus _ file _ c.run_words.ensures
+
+pub returns-clause-right : goal.returns-clause-right
+returns-clause-right g c file rules = prints_right _ file rules _ c.run_words.ensures
+
+pub returns-clause-rejected : goal.returns-clause-rejected
+returns-clause-rejected g c file rules = prints_rejected _ file rules _ c.run_words.ensures
 
 pub returns-clause-complete : goal.returns-clause-complete
-returns-clause-complete g c found finds none = completes _ found finds none _ c.run_words.ensures
+returns-clause-complete g c meant means none = completes _ meant means none _ c.run_words.ensures

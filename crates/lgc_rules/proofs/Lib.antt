@@ -1,0 +1,11 @@
+pub mod Rights
+pub mod Growings
+pub mod NumberLaws
+pub mod Tables
+pub mod RuleReads
+pub mod NumberTokens
+pub mod Loops
+pub mod Padding
+pub mod Places
+pub mod Fitting
+pub mod Tops

@@ -1,0 +1,91 @@
+-- Single tokens: a token of each class, and that no token passes two tests of different classes.
+use Rattle.std.proofs.Common.{◌≡◌, ℕ, Bool, true, false, List, [], Some, refl, ap, ◌∙◌}
+use Rattle.std.specs.Prelude.{codes, not, ◌&&◌}
+use Rattle.lgc_grammar.specs.Grammar.{One, PlainOne}
+use Rattle.lgc_grammar.specs.Reading.{one_at}
+use Rattle.lgc_grammar.proofs.Readers.{Reads, Must, never}
+use Rattle.lgc_grammar.proofs.Basic.{one_reads}
+use Rattle.lgc_grammar.proofs.Classes.{IsTable, entry, all_pass, apart}
+use Rattle.lgc_lexer.specs.declared.token.Kind.{Kind}
+use Rattle.lgc_lexer.specs.declared.token.Kind.TheVariants as kind
+use Rattle.lgc_rules.specs.declared.class.Class.{Class}
+use Rattle.lgc_rules.specs.declared.class.Class.TheVariants.{RuleWord, AtWord, OperatorWord, QuantifierWord, Lower, Upper, Zero, Number, Digits, Quoted, Text, Caret, Symbol, OpenBrace, CloseBrace, OpenSquare, CloseSquare, Comma, Dot, Colon, Semicolon, Slash, Punct}
+use Rattle.lgc_rules.specs.declared.terminal.Terminal.{Terminal}
+use Rattle.lgc_rules.specs.declared.terminal.Terminal.TheVariants as terminal
+use Rattle.lgc_rules.specs.Words.{Right, right_at}
+use Rattle.lgc_rules.specs.Numbers.{number_in}
+use Rattle.lgc_rules.specs.Spelled.{Spelled}
+use Rattle.lgc_rules.specs.Classes.{classes, place, same, class_of, class_of_word, class_of_punct, passes, is, is_a}
+use Rattle.lgc_rules.proofs.Rights.{right_reads}
+
+table : IsTable classes
+table = record { place = place; holds = holds }
+  where
+    holds : (c : Class) → entry classes (place c) ≡ Some c
+    holds RuleWord = refl
+    holds c = refl
+
+-- a token whose class passes f doesn't pass g
+pub off : (f g : Class → Bool) → all_pass (λ c. not (f c && g c)) classes ≡ true → (t : Spelled) → f (class_of t) ≡ true → g (class_of t) ≡ false
+off = apart table class_of
+
+abbrev spelt : Kind → List ℕ → Spelled
+spelt k text = record { token = record { kind = k; start = 0; end = 0 }; text = text; before_caret = false }
+
+-- a token of each class
+abbrev token : Class → Spelled
+token RuleWord = spelt kind.Lower (codes "rule")
+token AtWord = spelt kind.Lower (codes "at")
+token OperatorWord = spelt kind.Lower (codes "operator")
+token QuantifierWord = spelt kind.Lower (codes "quantifier")
+token Lower = spelt kind.Lower (codes "x")
+token Upper = spelt kind.Upper (codes "X")
+token Zero = spelt kind.Digits (codes "0")
+token Number = spelt kind.Digits (codes "1")
+token Digits = spelt kind.Digits (codes "1x")
+token Quoted = spelt kind.Quoted (codes "x")
+token Text = spelt kind.Text []
+token Caret = spelt kind.Symbol (codes "^")
+token Symbol = spelt kind.Symbol (codes "+")
+token OpenBrace = spelt kind.Punct (codes "{")
+token CloseBrace = spelt kind.Punct (codes "}")
+token OpenSquare = spelt kind.Punct (codes "[")
+token CloseSquare = spelt kind.Punct (codes "]")
+token Comma = spelt kind.Punct (codes ",")
+token Dot = spelt kind.Punct (codes ".")
+token Colon = spelt kind.Punct (codes ":")
+token Semicolon = spelt kind.Punct (codes ";")
+token Slash = spelt kind.Punct (codes "/")
+token Punct = spelt kind.Punct (codes "(")
+
+is_of_class : (c : Class) → class_of (token c) ≡ c
+unfolding class_of class_of_word class_of_punct number_in
+is_of_class RuleWord = refl
+is_of_class c = refl
+
+-- a class of each terminal
+abbrev sample : Terminal → Class
+sample (terminal.Only c) = c
+sample terminal.Name = Lower
+sample terminal.Number = Number
+sample terminal.Value = Lower
+
+sample_passes : (t : Terminal) → passes t (sample t) ≡ true
+sample_passes (terminal.Only c) = by c
+  where
+    by : (c : Class) → same c c ≡ true
+    by RuleWord = refl
+    by c = refl
+sample_passes terminal.Name = refl
+sample_passes t = refl
+
+some_passes : (t : Terminal) → is_a t (token (sample t)) ≡ true
+some_passes t = ap (passes t) (is_of_class (sample t)) ∙ sample_passes t
+
+-- one token of a class
+pub one : (c : Class) → Reads (one_at (is c)) (One (is c)) (PlainOne (is c)) (Must (is c)) never
+one c = one_reads (is c) (token c) (some_passes (terminal.Only c))
+
+-- one token of a terminal that has to keep a rule
+pub right : (t : Terminal) (breaks : Spelled → Bool) (n : ℕ) → Reads (right_at (is_a t) breaks n) (Right (is_a t) breaks) (PlainOne (is_a t)) (Must (is_a t)) never
+right t breaks n = right_reads (is_a t) breaks n (token (sample t)) (some_passes t)

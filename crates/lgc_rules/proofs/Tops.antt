@@ -1,0 +1,201 @@
+-- From the readers to the grammar: whole files, and single rules among tokens.
+use Rattle.std.proofs.Common.{◌≡◌, ℕ, ◌+◌, ◌-◌, ◌<◌, ◌≤◌, Bool, true, false, List, [], ◌∷◌, ◌++◌, length, drop, All, Result, Ok, Err, IfOk, refl, sym, ap, subst, ◌∙◌, arith, length-append, length-drop}
+use Rattle.std.specs.Prelude.{nat_lt, ◌^◌}
+use Rattle.std.proofs.lemmas.Bool.{ltb-false, le-ltb}
+use Rattle.std.proofs.lemmas.List.{drop-drop}
+use Rattle.std.proofs.lemmas.List.Elements.{All-nil, All-push}
+use Rattle.lgc_grammar.specs.Grammar.{Grammar, Language, Why, StopsAt, Answers}
+use Rattle.lgc_grammar.specs.Reading.{Reader, whole, next_is}
+use Rattle.lgc_grammar.proofs.Readers.{Reads, Start, Must, never, ok, whole_answers, whole_complete}
+use Rattle.lgc_lexer.specs.declared.token.Token.{Token}
+use Rattle.lgc_lexer.specs.declared.fault.LexFault.{LexFault}
+use Rattle.lgc_lexer.specs.declared.fault.LexFault.TheVariants.{BadByte, OpenQuote, Memory}
+use Rattle.lgc_lexer.specs.Tokens.{tokens_of}
+use Rattle.lgc_values.specs.Logic.{Logic}
+use Rattle.lgc_clauses.specs.declared.rule.Rule.{Rule}
+use Rattle.lgc_syntax.specs.declared.fault.InputFault.{InputFault}
+use Rattle.lgc_syntax.specs.declared.fault.InputFault.TheVariants as fault
+use Rattle.lgc_syntax.specs.declared.fault.TheConstants.{UNEXPECTED}
+use Rattle.lgc_rules.specs.declared.fault.Stop.{Stop}
+use Rattle.lgc_rules.specs.declared.fault.Stop.TheVariants as stop
+use Rattle.lgc_rules.specs.declared.number.TheConstants.{MOST_NUMBER}
+use Rattle.lgc_rules.specs.declared.file.TheConstants.{LONGEST_FILE}
+use Rattle.lgc_rules.specs.declared.rule.Numbered.{Numbered}
+use Rattle.lgc_rules.specs.declared.class.Class.TheVariants.{RuleWord}
+use Rattle.lgc_rules.specs.Spelled.{Spelled, spelled_all, place}
+use Rattle.lgc_rules.specs.Classes.{is}
+use Rattle.lgc_rules.specs.RuleGrammar.{NextRule, Rules}
+use Rattle.lgc_rules.specs.PlainGrammar.{PlainRule, PlainRules}
+use Rattle.lgc_rules.specs.RuleReading.{rule_at, rules_at}
+use Rattle.lgc_rules.specs.Gives.{Fails, Holds, IsTree, Tells, fault_of, told_of, stop_told}
+use Rattle.lgc_rules.specs.RuleFile.{IsRuleFor, TokensGive, LexedGive, LengthGives, FileGives, IsFileOf, lexed_read, file_read}
+use Rattle.lgc_rules.specs.RulePlace.{AnyNumbered, RuleGives, rule_read}
+use Rattle.lgc_rules.proofs.RuleReads.{rule_reads, rules_read}
+use Rattle.lgc_rules.proofs.Places.{length-spelled, spelled_drop, drop_to, few_tokens}
+use Rattle.lgc_rules.proofs.Fitting.{growing_keeps, rule_fits}
+
+-- ---- stops
+
+pub stop_tells : {X Y : Type 0} (bytes : List ℕ) (e : Stop) (read : Result Y (List Spelled × Why)) (view : X → Y) → Fails bytes e read → Tells view (Err (stop_told bytes e)) (told_of (length bytes) read)
+stop_tells bytes stop.Memory read view h = tt
+stop_tells bytes (stop.Unexpected rest) read view h = rw h refl
+stop_tells bytes (stop.Breaks n rest) read view h = rw h refl
+
+-- ---- whole files
+
+-- no want of memory
+abbrev Settled : {X : Type 0} → Result X InputFault → Type 0
+Settled (Err fault.Memory) = ⊥
+Settled _ = Unit {0}
+
+module _ (n : ℕ) (logic : Logic) (bytes : List ℕ) where
+  tokens_give : (tokens : List Token) (read : Result (List (Rule n)) (List Spelled × Why)) → Answers (Rules n logic) PlainRules (spelled_all bytes tokens) read → TokensGive n logic bytes tokens (told_of (length bytes) read)
+  tokens_give tokens (Ok rules) h = h
+  tokens_give tokens (Err (rest, why)) h = (rest, why, h, refl)
+
+  lexed_gives : (lexed : Result (List Token) LexFault) → Settled (lexed_read n logic bytes lexed) → LexedGive n logic bytes lexed (lexed_read n logic bytes lexed)
+  lexed_gives (Ok tokens) settled = tokens_give tokens (whole (rules_at n logic) (spelled_all bytes tokens)) (whole_answers (rules_read n logic) (spelled_all bytes tokens))
+  lexed_gives (Err (BadByte offset)) settled = refl
+  lexed_gives (Err (OpenQuote offset)) settled = refl
+  lexed_gives (Err Memory) settled = settled
+
+  file_gives : Settled (file_read n logic bytes) → FileGives n logic bytes (file_read n logic bytes)
+  file_gives settled = by (nat_lt LONGEST_FILE (length bytes)) refl settled
+    where
+      by : (long : Bool) → nat_lt LONGEST_FILE (length bytes) ≡ long → Settled (file_read n logic bytes) → LengthGives n logic bytes (nat_lt LONGEST_FILE (length bytes)) (file_read n logic bytes)
+      by true e s = rw e refl
+      by false e s = rw e (lexed_gives (tokens_of bytes) (rw e at s))
+
+  pub file_answer : (result : Result (List (Rule n)) InputFault) → Tells (λ rules. rules) result (file_read n logic bytes) → Holds (FileGives n logic bytes) result
+  file_answer (Ok rules) told = subst (FileGives n logic bytes) told (file_gives (rw told tt))
+  file_answer (Err fault.Memory) told = tt
+  file_answer (Err (fault.Fault number offset)) told = subst (FileGives n logic bytes) told (file_gives (rw told tt))
+
+  file_complete : (rules : List (Rule n)) → IsFileOf n logic bytes rules → file_read n logic bytes ≡ Ok rules
+  file_complete rules h = rw (le-ltb LONGEST_FILE (length bytes) h.short, h.lexed, whole_complete (rules_read n logic) rules (spelled_all bytes h.tokens) h.derived) refl
+
+  pub file_is : (rules : List (Rule n)) (result : Result (List (Rule n)) InputFault) → IsFileOf n logic bytes rules → Tells (λ rules. rules) result (file_read n logic bytes) → IsTree (λ rules. rules) result rules
+  file_is rules (Ok x) h told = let same = sym told ∙ file_complete rules h in cc
+  file_is rules (Err fault.Memory) h told = tt
+  file_is rules (Err (fault.Fault number offset)) h told = let same = sym told ∙ file_complete rules h in absurd cc
+
+  lexed_is : (short : length bytes ≤ LONGEST_FILE) (lexed : Result (List Token) LexFault) (rules : List (Rule n)) → tokens_of bytes ≡ lexed → LexedGive n logic bytes lexed (Ok rules) → IsFileOf n logic bytes rules
+  lexed_is short (Ok tokens) rules e h = record { short = short; tokens = tokens; lexed = e; derived = h }
+  lexed_is short (Err (BadByte offset)) rules e h = absurd cc
+  lexed_is short (Err (OpenQuote offset)) rules e h = absurd cc
+  lexed_is short (Err Memory) rules e h = absurd h
+
+  file_of : (rules : List (Rule n)) → FileGives n logic bytes (Ok rules) → IsFileOf n logic bytes rules
+  file_of rules h = by (nat_lt LONGEST_FILE (length bytes)) refl h
+    where
+      by : (long : Bool) → nat_lt LONGEST_FILE (length bytes) ≡ long → LengthGives n logic bytes long (Ok rules) → IsFileOf n logic bytes rules
+      by true e g = absurd cc
+      by false e g = lexed_is (ltb-false LONGEST_FILE (length bytes) e) (tokens_of bytes) rules refl g
+
+  -- each rule of the grammar is one for the logic
+  rules_fit : (ts : List Spelled) (rules : List (Rule n)) → length ts ≤ LONGEST_FILE → Rules n logic rules ts → All (IsRuleFor n logic) rules
+  rules_fit ts rules few h = growing_keeps (NextRule n logic) (All (IsRuleFor n logic)) LONGEST_FILE step [] rules ts few (All-nil (IsRuleFor n logic)) h
+    where
+      step : (a b : List (Rule n)) (v : List Spelled) → length v ≤ LONGEST_FILE → All (IsRuleFor n logic) a → NextRule n logic a b v → All (IsRuleFor n logic) b
+      step a b v short all (next, is, f) =
+          let (fits, few) = rule_fits n logic (length a + 1) (length a + 1) next v f in
+          subst (All (IsRuleFor n logic)) (sym is) (All-push (IsRuleFor n logic) a next.rule all (record { fits = fits; few = omega arith }))
+
+  pub file_fits : (result : Result (List (Rule n)) InputFault) → Tells (λ rules. rules) result (file_read n logic bytes) → IfOk result (λ rules. All (IsRuleFor n logic) rules)
+  file_fits (Ok rules) told =
+      let h = file_of rules (file_answer (Ok rules) told) in
+      rules_fit (spelled_all bytes h.tokens) rules (omega (arith, h.short, length-spelled bytes h.tokens, few_tokens bytes h.tokens h.lexed)) h.derived
+  file_fits (Err e) told = tt
+
+-- ---- single rules
+
+never_next : (ts : List Spelled) → next_is never ts ≡ false
+never_next [] = refl
+never_next (t ∷ ts) = refl
+
+module _ {A : Type 0} {p : Reader Spelled A} {L : Grammar Spelled A} {P : Language Spelled} {start : Start Spelled} {go : Spelled → Bool} (reads : Reads p L P start go) where
+  took_front : (ts : List Spelled) (a : A) (rest : List Spelled) → p ts ≡ Ok (a, rest) → (front : List Spelled) × (ts ≡ front ++ rest) × L a front
+  took_front ts a rest e = let k = reads.took ts a rest e in (k.front, k.split, k.phrase)
+
+  stuck_front : (ts rest : List Spelled) (why : Why) → p ts ≡ Err (rest, why) → StopsAt P ts rest why
+  stuck_front ts rest why e =
+      let stops : whole p ts ≡ Err (rest, why) = rw e refl in
+      subst (Answers L P ts) stops (whole_answers reads ts)
+
+module _ (n : ℕ) (logic : Logic) (end : ℕ) where
+  rule_phrase : (ts : List Spelled) (x : Numbered n) (rest : List Spelled) → rule_read n logic end ts ≡ Ok (x, rest) → (front : List Spelled) × (ts ≡ front ++ rest) × AnyNumbered n logic x front
+  rule_phrase ts x rest told = by (rule_at n logic 0 MOST_NUMBER ts) refl told
+    where
+      by : (r : Result (Numbered n × List Spelled) (List Spelled × Why)) → rule_at n logic 0 MOST_NUMBER ts ≡ r → told_of end r ≡ Ok (x, rest) → (front : List Spelled) × (ts ≡ front ++ rest) × AnyNumbered n logic x front
+      by (Ok y) e h = took_front (rule_reads n logic 0 MOST_NUMBER) ts x rest (e ∙ cc)
+      by (Err f) e h = absurd cc
+
+  rule_stop : (ts : List Spelled) (f : InputFault) → rule_read n logic end ts ≡ Err f → (rest : List Spelled) × (why : Why) × StopsAt PlainRule ts rest why × (f ≡ fault_of end (rest, why))
+  rule_stop ts f told = by (rule_at n logic 0 MOST_NUMBER ts) refl told
+    where
+      by : (r : Result (Numbered n × List Spelled) (List Spelled × Why)) → rule_at n logic 0 MOST_NUMBER ts ≡ r → told_of end r ≡ Err f → (rest : List Spelled) × (why : Why) × StopsAt PlainRule ts rest why × (f ≡ fault_of end (rest, why))
+      by (Ok y) e h = absurd cc
+      by (Err (rest, why)) e h = (rest, why, stuck_front (rule_reads n logic 0 MOST_NUMBER) ts rest why e, cc)
+
+  pub rule_answer : (ts : List Spelled) (at : ℕ) (result : Result (Numbered n × ℕ) InputFault) → Tells (λ x. (x.0, drop x.1 ts)) result (rule_read n logic end (drop at ts)) → Holds (RuleGives n logic end ts at) result
+  rule_answer ts at (Ok x) told = rule_phrase (drop at ts) x.0 (drop x.1 ts) told
+  rule_answer ts at (Err fault.Memory) told = tt
+  rule_answer ts at (Err (fault.Fault number offset)) told = rule_stop (drop at ts) (fault.Fault number offset) told
+
+  pub rule_is : (ts : List Spelled) (at : ℕ) (result : Result (Numbered n × ℕ) InputFault) (rule : Numbered n) (front rest : List Spelled) → drop at ts ≡ front ++ rest → AnyNumbered n logic rule front → Tells (λ x. (x.0, drop x.1 ts)) result (rule_read n logic end (drop at ts)) → IsTree {A = Numbered n × List Spelled} (λ x. (x.0, drop x.1 ts)) result (rule, rest)
+  rule_is ts at result rule front rest split h told = by result told
+    where
+      read : rule_at n logic 0 MOST_NUMBER (front ++ rest) ≡ Ok (rule, rest)
+      read = let reads : Reads (rule_at n logic 0 MOST_NUMBER) (AnyNumbered n logic) PlainRule (Must (is RuleWord)) never = rule_reads n logic 0 MOST_NUMBER in reads.complete rule front rest h (never_next rest)
+
+      whole_read : rule_read n logic end (drop at ts) ≡ Ok (rule, rest)
+      whole_read = rw (split, read) refl
+
+      by : (result : Result (Numbered n × ℕ) InputFault) → Tells (λ x. (x.0, drop x.1 ts)) result (rule_read n logic end (drop at ts)) → IsTree {A = Numbered n × List Spelled} (λ x. (x.0, drop x.1 ts)) result (rule, rest)
+      by (Ok x) told = let same = sym told ∙ whole_read in cc
+      by (Err fault.Memory) told = tt
+      by (Err (fault.Fault number offset)) told = let same = sym told ∙ whole_read in absurd cc
+
+  pub rule_for : (bytes : List ℕ) (tokens : List Token) (at : ℕ) (result : Result (Numbered n × ℕ) InputFault) → length bytes < 2 ^ 32 → tokens_of bytes ≡ Ok tokens → Tells (λ x. (x.0, drop x.1 (spelled_all bytes tokens))) result (rule_read n logic end (drop at (spelled_all bytes tokens))) → IfOk result (λ x. IsRuleFor n logic x.0.rule)
+  rule_for bytes tokens at (Ok x) short lexed told =
+      let (front, split, h) = rule_phrase (drop at (spelled_all bytes tokens)) x.0 (drop x.1 (spelled_all bytes tokens)) told in
+      let (fits, few) = rule_fits n logic 0 MOST_NUMBER x.0 front h in
+      let all : length (drop at (spelled_all bytes tokens)) ≤ length tokens = omega (arith, length-drop at (spelled_all bytes tokens), length-spelled bytes tokens) in
+      record { fits = fits; few = omega (arith, ap length split, length-append front (drop x.1 (spelled_all bytes tokens)), few_tokens bytes tokens lexed) }
+  rule_for bytes tokens at (Err e) short lexed told = tt
+
+  -- the tokens that are left behind a rule, by how many they are
+  pub rule_left : (bytes : List ℕ) (ts rest : List Token) (x : Numbered n) → rule_at n logic 0 MOST_NUMBER (spelled_all bytes ts) ≡ Ok (x, spelled_all bytes rest) → rule_read n logic end (spelled_all bytes ts) ≡ Ok (x, drop (length ts - length rest) (spelled_all bytes ts))
+  rule_left bytes ts rest x e =
+      let (front, split, h) = took_front (rule_reads n logic 0 MOST_NUMBER) (spelled_all bytes ts) x (spelled_all bytes rest) e in
+      let behind : drop (length ts - length rest) (spelled_all bytes ts) ≡ spelled_all bytes rest = rw (length-spelled bytes ts, length-spelled bytes rest) at (drop_to (spelled_all bytes ts) front (spelled_all bytes rest) split) in
+      rw (behind, e) refl
+
+-- the same from a place on
+pub left_from : (ts : List Spelled) (at count left : ℕ) → at ≤ length ts → count ≡ length ts - at → left ≤ count → drop (count - left) (drop at ts) ≡ drop (length ts - left) ts
+left_from ts at count left within is less =
+    let sum : at + (count - left) ≡ length ts - left = omega arith in
+    rw (drop-drop (count - left) at ts, sum) refl
+
+-- the same fault
+pub fault_moved : {Y : Type 0} (f : InputFault) (told also : Result Y InputFault) → told ≡ also → Tells (λ (y : Y). y) (Err f) told → Tells (λ (y : Y). y) (Err f) also
+fault_moved fault.Memory told also same h = tt
+fault_moved (fault.Fault number offset) told also same h = sym same ∙ h
+
+module _ (n : ℕ) (logic : Logic) (end : ℕ) (bytes : List ℕ) (tokens back : List Token) (at : ℕ) (within : at ≤ length tokens) (is : back ≡ drop at tokens) where
+  pub same_back : rule_read n logic end (spelled_all bytes back) ≡ rule_read n logic end (drop at (spelled_all bytes tokens))
+  same_back = ap (rule_read n logic end) (ap (spelled_all bytes) is ∙ spelled_drop bytes tokens at)
+
+  pub rule_moved : (x : Numbered n) (left : ℕ) → left < length back → rule_read n logic end (spelled_all bytes back) ≡ Ok (x, drop (length back - left) (spelled_all bytes back)) → rule_read n logic end (drop at (spelled_all bytes tokens)) ≡ Ok (x, drop (length tokens - left) (spelled_all bytes tokens))
+  rule_moved x left less told =
+      let spelt : spelled_all bytes back ≡ drop at (spelled_all bytes tokens) = ap (spelled_all bytes) is ∙ spelled_drop bytes tokens at in
+      let all : length (spelled_all bytes tokens) ≡ length tokens = length-spelled bytes tokens in
+      let count : length back ≡ length (spelled_all bytes tokens) - at = omega (arith, ap length is, length-drop at tokens) in
+      let behind : drop (length back - left) (spelled_all bytes back) ≡ drop (length tokens - left) (spelled_all bytes tokens) =
+      ap (drop (length back - left)) spelt ∙ left_from (spelled_all bytes tokens) at (length back) left (omega arith) count (omega arith) ∙ ap (λ (k : ℕ). drop (k - left) (spelled_all bytes tokens)) all in
+      sym same_back ∙ told ∙ ap (λ (d : List Spelled). ok {A = Numbered n × List Spelled} {E = InputFault} (x, d)) behind
+
+-- tokens behind all rules
+pub rest_tells : (n : ℕ) (logic : Logic) (bytes : List ℕ) (ts : List Spelled) (rules : List (Rule n)) (rest : List Token) → 1 ≤ length rest → rules_at n logic ts ≡ Ok (rules, spelled_all bytes rest) → told_of (length bytes) (whole (rules_at n logic) ts) ≡ Err (fault.Fault UNEXPECTED (place (length bytes) (spelled_all bytes rest)))
+rest_tells n logic bytes ts rules [] some e = absurd (omega arith)
+rest_tells n logic bytes ts rules (t ∷ rest) some e = rw e refl

@@ -1,0 +1,56 @@
+-- What the functions that read have to answer.
+use Rattle.std.specs.Prelude.{◌≡◌, ℕ, List, length, Result, Ok, Err}
+use Rattle.lgc_grammar.specs.Grammar.{Why, Unexpected, Breaks}
+use Rattle.lgc_syntax.specs.declared.fault.InputFault.{InputFault}
+use Rattle.lgc_syntax.specs.declared.fault.InputFault.TheVariants as fault
+use Rattle.lgc_syntax.specs.declared.fault.TheConstants.{UNEXPECTED}
+use Rattle.lgc_rules.specs.declared.fault.Stop.{Stop}
+use Rattle.lgc_rules.specs.declared.fault.Stop.TheVariants as stop
+use Rattle.lgc_rules.specs.Spelled.{Spelled, spelled_all, place}
+
+-- reading stops before the same tokens, for the same reason
+abbrev pub Fails : {Y : Type 0} → List ℕ → Stop → Result Y (List Spelled × Why) → Type 0
+Fails bytes stop.Memory read = Unit {0}
+Fails bytes (stop.Unexpected rest) read = read ≡ Err (spelled_all bytes rest.now, Unexpected)
+Fails bytes (stop.Breaks n rest) read = read ≡ Err (spelled_all bytes rest.now, Breaks n)
+
+-- What a function returned, seen by view, is what reading gives, unless memory ran out.
+abbrev pub Gives : {X Y : Type 0} → List ℕ → (X → Y) → Result X Stop → Result Y (List Spelled × Why) → Type 0
+Gives bytes view (Ok x) read = read ≡ Ok (view x)
+Gives bytes view (Err e) read = Fails bytes e read
+
+-- ---- answers to callers
+
+-- the fault that reading tells: its number, and the place of the first token that is left
+abbrev pub fault_of : ℕ → List Spelled × Why → InputFault
+fault_of end (rest, Unexpected) = fault.Fault UNEXPECTED (place end rest)
+fault_of end (rest, Breaks n) = fault.Fault n (place end rest)
+
+-- What a function answered has this property. Nothing is said where memory ran out.
+abbrev pub Holds : {X : Type 0} → (Result X InputFault → Type 0) → Result X InputFault → Type 0
+Holds says (Ok x) = says (Ok x)
+Holds says (Err fault.Memory) = Unit {0}
+Holds says (Err (fault.Fault number offset)) = says (Err (fault.Fault number offset))
+
+-- it is this, unless memory ran out
+abbrev pub IsTree : {X A : Type 0} → (X → A) → Result X InputFault → A → Type 0
+IsTree view (Ok x) a = view x ≡ a
+IsTree view (Err fault.Memory) a = Unit {0}
+IsTree view (Err (fault.Fault number offset)) a = ⊥
+
+-- What a function returned, seen by view, is what reading tells, unless memory ran out.
+abbrev pub Tells : {X Y : Type 0} → (X → Y) → Result X InputFault → Result Y InputFault → Type 0
+Tells view (Ok x) told = told ≡ Ok (view x)
+Tells view (Err fault.Memory) told = Unit {0}
+Tells view (Err (fault.Fault number offset)) told = told ≡ Err (fault.Fault number offset)
+
+-- what reading tells
+abbrev pub told_of : {A : Type 0} → ℕ → Result A (List Spelled × Why) → Result A InputFault
+told_of end (Ok a) = Ok a
+told_of end (Err e) = Err (fault_of end e)
+
+-- what a stop tells
+abbrev pub stop_told : List ℕ → Stop → InputFault
+stop_told bytes stop.Memory = fault.Memory
+stop_told bytes (stop.Unexpected rest) = fault_of (length bytes) (spelled_all bytes rest.now, Unexpected)
+stop_told bytes (stop.Breaks n rest) = fault_of (length bytes) (spelled_all bytes rest.now, Breaks n)

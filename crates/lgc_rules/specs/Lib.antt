@@ -1,0 +1,11 @@
+pub mod Words
+pub mod Spelled
+pub mod Numbers
+pub mod Classes
+pub mod Names
+pub mod RuleGrammar
+pub mod PlainGrammar
+pub mod RuleReading
+pub mod Gives
+pub mod RuleFile
+pub mod RulePlace

@@ -1,0 +1,71 @@
+-- What the bytes of a rule file give: its rules, or its first fault.
+use Rattle.std.specs.Prelude.{◌≡◌, ◌<◌, ◌≤◌, ◌^◌, ℕ, nat_lt, Bool, true, false, List, length, Result, Ok, Err, if◌then◌else◌}
+use Rattle.lgc_grammar.specs.Grammar.{Why, StopsAt}
+use Rattle.lgc_grammar.specs.Reading.{whole}
+use Rattle.lgc_lexer.specs.declared.token.Token.{Token}
+use Rattle.lgc_lexer.specs.declared.fault.LexFault.{LexFault}
+use Rattle.lgc_lexer.specs.declared.fault.LexFault.TheVariants.{BadByte, OpenQuote, Memory}
+use Rattle.lgc_lexer.specs.Tokens.{tokens_of}
+use Rattle.lgc_values.specs.Logic.{Logic}
+use Rattle.lgc_clauses.specs.declared.rule.Rule.{Rule}
+use Rattle.lgc_clauses.specs.Exactness.{any_rule, clauses_of, RuleFits}
+use Rattle.lgc_syntax.specs.declared.fault.InputFault.{InputFault}
+use Rattle.lgc_syntax.specs.declared.fault.InputFault.TheVariants as fault
+use Rattle.lgc_syntax.specs.declared.fault.TheConstants.{FILE_TOO_LONG, BAD_BYTE, OPEN_QUOTE}
+use Rattle.lgc_rules.specs.declared.file.TheConstants.{LONGEST_FILE}
+use Rattle.lgc_rules.specs.Spelled.{Spelled, spelled_all}
+use Rattle.lgc_rules.specs.RuleGrammar.{Rules}
+use Rattle.lgc_rules.specs.PlainGrammar.{PlainRules}
+use Rattle.lgc_rules.specs.RuleReading.{rules_at}
+use Rattle.lgc_rules.specs.Gives.{fault_of, told_of}
+
+-- a rule for the logic, with fewer than 2 ^ 32 clauses
+pub record IsRuleFor (n : ℕ) (logic : Logic) (rule : Rule n) : Type 0 where
+  pub fits : RuleFits logic (any_rule rule)
+  pub few : length (clauses_of (any_rule rule)) < 2 ^ 32
+
+-- ---- as a relation
+
+-- What the tokens of a file give: the rules of the grammar. Else the fault is at the first token with which no rule file goes
+-- on, or which breaks a rule.
+abbrev pub TokensGive : (n : ℕ) → Logic → List ℕ → List Token → Result (List (Rule n)) InputFault → Type 0
+TokensGive n logic bytes tokens (Ok rules) = Rules n logic rules (spelled_all bytes tokens)
+TokensGive n logic bytes tokens (Err f) =
+    (rest : List Spelled) × (why : Why) × StopsAt PlainRules (spelled_all bytes tokens) rest why × (f ≡ fault_of (length bytes) (rest, why))
+
+-- the same behind what cutting the bytes into tokens gives
+abbrev pub LexedGive : (n : ℕ) → Logic → List ℕ → Result (List Token) LexFault → Result (List (Rule n)) InputFault → Type 0
+LexedGive n logic bytes (Ok tokens) told = TokensGive n logic bytes tokens told
+LexedGive n logic bytes (Err (BadByte offset)) told = told ≡ Err (fault.Fault BAD_BYTE offset)
+LexedGive n logic bytes (Err (OpenQuote offset)) told = told ≡ Err (fault.Fault OPEN_QUOTE offset)
+LexedGive n logic bytes (Err Memory) told = ⊥
+
+-- the same behind whether the file is too long
+abbrev pub LengthGives : (n : ℕ) → Logic → List ℕ → Bool → Result (List (Rule n)) InputFault → Type 0
+LengthGives n logic bytes true told = told ≡ Err (fault.Fault FILE_TOO_LONG LONGEST_FILE)
+LengthGives n logic bytes false told = LexedGive n logic bytes (tokens_of bytes) told
+
+-- What the bytes of a file give: the length is looked at first, then the tokens of the whole file, and then the grammar.
+abbrev pub FileGives : (n : ℕ) → Logic → List ℕ → Result (List (Rule n)) InputFault → Type 0
+FileGives n logic bytes told = LengthGives n logic bytes (nat_lt LONGEST_FILE (length bytes)) told
+
+-- the bytes are those of a file with these rules
+pub record IsFileOf (n : ℕ) (logic : Logic) (bytes : List ℕ) (rules : List (Rule n)) : Type 0 where
+  pub short : length bytes ≤ LONGEST_FILE
+  pub tokens : List Token
+  pub lexed : tokens_of bytes ≡ Ok tokens
+  pub derived : Rules n logic rules (spelled_all bytes tokens)
+
+-- ---- as a function
+
+abbrev pub lexed_read : (n : ℕ) → Logic → List ℕ → Result (List Token) LexFault → Result (List (Rule n)) InputFault
+lexed_read n logic bytes (Ok tokens) = told_of (length bytes) (whole (rules_at n logic) (spelled_all bytes tokens))
+lexed_read n logic bytes (Err (BadByte offset)) = Err (fault.Fault BAD_BYTE offset)
+lexed_read n logic bytes (Err (OpenQuote offset)) = Err (fault.Fault OPEN_QUOTE offset)
+lexed_read n logic bytes (Err Memory) = Err fault.Memory
+
+-- the rules of the bytes of a file, or its first fault
+abbrev pub file_read : (n : ℕ) → Logic → List ℕ → Result (List (Rule n)) InputFault
+file_read n logic bytes =
+    if nat_lt LONGEST_FILE (length bytes) then Err (fault.Fault FILE_TOO_LONG LONGEST_FILE)
+    else lexed_read n logic bytes (tokens_of bytes)

@@ -1,0 +1,135 @@
+-- The readers of rule files, line by line as their grammar.
+use Rattle.std.specs.Prelude.{ℕ, ◌+◌, ◌-◌, true, List, [], ◌∷◌, ◌++◌, length}
+use Rattle.lgc_grammar.specs.Reading.{Reader, one_at, nothing_at, map_at, ◌>>=◌, ◌>>◌, either_at, optional_at}
+use Rattle.lgc_values.specs.Logic.{Logic, operator_at}
+use Rattle.lgc_clauses.specs.declared.rule.Rule.{Rule}
+use Rattle.lgc_clauses.specs.declared.rule.Rule.TheVariants as rule
+use Rattle.lgc_syntax.specs.declared.fault.TheConstants.{UNKNOWN_NAME, WRONG_ARITY, UNKNOWN_VALUE, BAD_ARGUMENT, MISNUMBERED}
+use Rattle.lgc_rules.specs.declared.rule.Numbered.{Numbered}
+use Rattle.lgc_rules.specs.declared.class.Class.TheVariants.{RuleWord, AtWord, OperatorWord, QuantifierWord, Zero, Caret, OpenBrace, CloseBrace, OpenSquare, CloseSquare, Comma, Dot, Colon, Semicolon, Slash}
+use Rattle.lgc_rules.specs.declared.class.Class.TheVariants as class
+use Rattle.lgc_rules.specs.declared.terminal.Terminal.{Terminal}
+use Rattle.lgc_rules.specs.declared.terminal.Terminal.TheVariants as terminal
+use Rattle.lgc_rules.specs.Words.{right_at, growing_at}
+use Rattle.lgc_rules.specs.Spelled.{Spelled}
+use Rattle.lgc_rules.specs.Classes.{is, is_a, is_name, is_number, is_value}
+use Rattle.lgc_rules.specs.Names.{value_of, operator_of, number, names_no_value, names_no_operator, is_outside, with_value, padded}
+
+-- a number from `least` to `most`; another one breaks the rule `fault`
+unfoldable pub number_at : ℕ → ℕ → ℕ → Terminal → Reader Spelled ℕ
+number_at least most fault test ts = map_at number (right_at (is_a test) (is_outside least most) fault) ts
+
+-- ---- sets
+
+unfoldable pub value_at : Logic → Reader Spelled ℕ
+value_at logic ts = map_at (value_of logic) (right_at is_value (names_no_value logic) UNKNOWN_VALUE) ts
+
+abbrev pub next_value_at : ℕ → Logic → List ℕ → Reader Spelled (List ℕ)
+next_value_at n logic set = do
+  one_at (is Comma)
+  value ← value_at logic
+  nothing_at (with_value n set value)
+
+-- values behind those of a set
+unfoldable pub more_values_at : ℕ → Logic → List ℕ → Reader Spelled (List ℕ)
+more_values_at n logic set ts = growing_at (is Comma) (next_value_at n logic) set ts
+
+unfoldable pub set_at : ℕ → Logic → Reader Spelled (List ℕ)
+set_at n logic = do
+  one_at (is OpenBrace)
+  value ← value_at logic
+  set ← more_values_at n logic (value ∷ [])
+  one_at (is CloseBrace)
+  nothing_at set
+
+-- ---- clauses
+
+unfoldable pub literal_at : ℕ → Logic → ℕ → Terminal → List (List ℕ) → Reader Spelled (List (List ℕ))
+literal_at n logic arity test sets = do
+  argument ← number_at (length sets + 1) arity BAD_ARGUMENT test
+  one_at (is Caret)
+  set ← set_at n logic
+  nothing_at (padded (argument - 1) sets ++ set ∷ [])
+
+abbrev pub next_literal_at : ℕ → Logic → ℕ → List (List ℕ) → Reader Spelled (List (List ℕ))
+next_literal_at n logic arity sets = do
+  one_at (is Comma)
+  literal_at n logic arity terminal.Number sets
+
+-- literals behind those that gave these sets
+unfoldable pub more_literals_at : ℕ → Logic → ℕ → List (List ℕ) → Reader Spelled (List (List ℕ))
+more_literals_at n logic arity sets ts = growing_at (is Comma) (next_literal_at n logic arity) sets ts
+
+unfoldable pub literals_at : ℕ → Logic → ℕ → Reader Spelled (List (List ℕ))
+literals_at n logic arity ts = map_at (padded arity) (do
+  sets ← literal_at n logic arity (terminal.Only class.Number) []
+  more_literals_at n logic arity sets) ts
+
+unfoldable pub empty_clause_at : ℕ → Reader Spelled (List (List ℕ))
+empty_clause_at arity ts = map_at (λ _. padded arity []) (one_at (is Zero)) ts
+
+unfoldable pub clause_at : ℕ → Logic → ℕ → Reader Spelled (List (List ℕ))
+clause_at n logic arity ts = either_at (is Zero) (empty_clause_at arity) (literals_at n logic arity) ts
+
+abbrev pub next_clause_at : ℕ → Logic → ℕ → List (List (List ℕ)) → Reader Spelled (List (List (List ℕ)))
+next_clause_at n logic arity clauses = do
+  one_at (is Semicolon)
+  map_at (λ clause. clauses ++ clause ∷ []) (clause_at n logic arity)
+
+-- clauses behind these
+unfoldable pub more_clauses_at : ℕ → Logic → ℕ → List (List (List ℕ)) → Reader Spelled (List (List (List ℕ)))
+more_clauses_at n logic arity clauses ts = growing_at (is Semicolon) (next_clause_at n logic arity) clauses ts
+
+-- one clause or more
+unfoldable pub some_clauses_at : ℕ → Logic → ℕ → Reader Spelled (List (List (List ℕ)))
+some_clauses_at n logic arity = do
+  clause ← clause_at n logic arity
+  more_clauses_at n logic arity (clause ∷ [])
+
+unfoldable pub clauses_at : ℕ → Logic → ℕ → Reader Spelled (List (List (List ℕ)))
+clauses_at n logic arity ts = optional_at is_number [] (some_clauses_at n logic arity) ts
+
+-- ---- rules
+
+unfoldable pub operator_name_at : Logic → Reader Spelled ℕ
+operator_name_at logic ts = map_at (operator_of logic) (right_at is_name (names_no_operator logic) UNKNOWN_NAME) ts
+
+unfoldable pub operator_head_at : Logic → Reader Spelled ℕ
+operator_head_at logic = do
+  one_at (is OperatorWord)
+  op ← operator_name_at logic
+  one_at (is Slash)
+  number_at (operator_at logic op).arity (operator_at logic op).arity WRONG_ARITY terminal.Number
+  nothing_at op
+
+unfoldable pub quantifier_name_at : Reader Spelled ℕ
+quantifier_name_at ts = map_at (λ _. 0) (right_at is_name (λ _. true) UNKNOWN_NAME) ts
+
+unfoldable pub quantifier_head_at : Reader Spelled ℕ
+quantifier_head_at = do
+  one_at (is QuantifierWord)
+  quantifier_name_at
+
+unfoldable pub head_at : Logic → Reader Spelled ℕ
+head_at logic ts = either_at (is OperatorWord) (operator_head_at logic) quantifier_head_at ts
+
+unfoldable pub rule_at : (n : ℕ) → Logic → ℕ → ℕ → Reader Spelled (Numbered n)
+rule_at n logic least most = do
+  one_at (is RuleWord)
+  number ← number_at least most MISNUMBERED terminal.Number
+  one_at (is Colon)
+  op ← head_at logic
+  one_at (is AtWord)
+  sign ← set_at n logic
+  one_at (is Colon)
+  one_at (is OpenSquare)
+  clauses ← clauses_at n logic (operator_at logic op).arity
+  one_at (is CloseSquare)
+  one_at (is Dot)
+  nothing_at (record { number = number; rule = rule.Operator (record { op = op; sign = sign; clauses = clauses }) })
+
+abbrev pub next_rule_at : (n : ℕ) → Logic → List (Rule n) → Reader Spelled (List (Rule n))
+next_rule_at n logic rules = map_at (λ next. rules ++ next.rule ∷ []) (rule_at n logic (length rules + 1) (length rules + 1))
+
+unfoldable pub rules_at : (n : ℕ) → Logic → Reader Spelled (List (Rule n))
+rules_at n logic ts = growing_at (is RuleWord) (next_rule_at n logic) [] ts

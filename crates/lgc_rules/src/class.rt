@@ -1,0 +1,157 @@
+// What a token is to the grammar of rules.
+ghost use Rattle.std.specs.Prelude.{◌≡◌, length};
+ghost use Rattle.lgc_lexer.specs.Spans.{LiesIn, AllIn};
+ghost use Rattle.lgc_rules.specs.Spelled.{spelled, is_caret, begins_with_caret};
+ghost use Rattle.lgc_rules.specs.Classes.{class_of, class_of_word, class_of_digits, class_of_punct, same, is_lower};
+
+use crate::number::number_in;
+use lgc_lexer::{Kind, Token, content};
+
+/// The tokens that the grammar tells apart.
+#[derive(Clone, Copy, Debug, PartialEq, Eq)]
+pub(crate) enum Class {
+    RuleWord,
+    AtWord,
+    OperatorWord,
+    QuantifierWord,
+    /// A Lower that is no keyword.
+    Lower,
+    Upper,
+    /// The number 0 without a Symbol `^` behind it.
+    Zero,
+    /// Another number.
+    Number,
+    /// A Digits that is no number.
+    Digits,
+    Quoted,
+    Text,
+    /// The Symbol `^`.
+    Caret,
+    /// Another Symbol.
+    Symbol,
+    OpenBrace,
+    CloseBrace,
+    OpenSquare,
+    CloseSquare,
+    Comma,
+    Dot,
+    Colon,
+    Semicolon,
+    Slash,
+    /// A Punct that the grammar doesn't name.
+    Punct,
+}
+
+pub(crate) fn same(class: Class, other: Class) -> bool
+    ensures { result ≡ same class other }
+{
+    class == other
+}
+
+/// Whether it is that of a Lower: a keyword's or another one's.
+pub(crate) fn is_lower(class: Class) -> bool
+    ensures { result ≡ is_lower class }
+{
+    matches!(
+        class,
+        Class::RuleWord | Class::AtWord | Class::OperatorWord | Class::QuantifierWord | Class::Lower
+    )
+}
+
+#[tactic(auto, unfolding(crate::specs::Classes::class_of_word))]
+fn class_of_word(text: &[u8]) -> Class
+    ensures { result ≡ class_of_word text.now }
+{
+    if text == b"rule".as_slice() {
+        Class::RuleWord
+    } else if text == b"at".as_slice() {
+        Class::AtWord
+    } else if text == b"operator".as_slice() {
+        Class::OperatorWord
+    } else if text == b"quantifier".as_slice() {
+        Class::QuantifierWord
+    } else {
+        Class::Lower
+    }
+}
+
+fn class_of_digits(number: Option<u32>, before_caret: bool) -> Class
+    ensures { result ≡ class_of_digits number before_caret }
+{
+    match number {
+        None => Class::Digits,
+        Some(number) => {
+            if number == 0 && !before_caret {
+                Class::Zero
+            } else {
+                Class::Number
+            }
+        }
+    }
+}
+
+#[tactic(auto, unfolding(crate::specs::Classes::class_of_punct))]
+fn class_of_punct(text: &[u8]) -> Class
+    ensures { result ≡ class_of_punct text.now }
+{
+    if text == b"{".as_slice() {
+        Class::OpenBrace
+    } else if text == b"}".as_slice() {
+        Class::CloseBrace
+    } else if text == b"[".as_slice() {
+        Class::OpenSquare
+    } else if text == b"]".as_slice() {
+        Class::CloseSquare
+    } else if text == b",".as_slice() {
+        Class::Comma
+    } else if text == b".".as_slice() {
+        Class::Dot
+    } else if text == b":".as_slice() {
+        Class::Colon
+    } else if text == b";".as_slice() {
+        Class::Semicolon
+    } else if text == b"/".as_slice() {
+        Class::Slash
+    } else {
+        Class::Punct
+    }
+}
+
+// Whether the token is a Symbol `^`.
+fn is_caret(bytes: &[u8], token: &Token) -> bool
+    requires { LiesIn (length bytes.now) token.now }
+    ensures { result ≡ is_caret bytes.now token.now }
+{
+    matches!(token.kind, Kind::Symbol) && content(bytes, token) == b"^".as_slice()
+}
+
+// Whether such a token comes first.
+fn begins_with_caret(bytes: &[u8], tokens: &[Token]) -> bool
+    requires { AllIn bytes.now tokens.now }
+    ensures { result ≡ begins_with_caret bytes.now tokens.now }
+{
+    match tokens.split_first() {
+        Some((token, _)) => is_caret(bytes, token),
+        None => false,
+    }
+}
+
+/// The class of a token before others, by its kind, its content and what is behind it.
+#[tactic(auto, unfolding(crate::specs::Classes::class_of))]
+pub(crate) fn class_of(bytes: &[u8], token: &Token, rest: &[Token]) -> Class
+    requires token { LiesIn (length bytes.now) token.now }
+    requires rest { AllIn bytes.now rest.now }
+    ensures { result ≡ class_of (spelled bytes.now token.now rest.now) }
+{
+    let text = content(bytes, token);
+    match token.kind {
+        Kind::Lower => class_of_word(text),
+        Kind::Upper => Class::Upper,
+        Kind::Digits => class_of_digits(number_in(text), begins_with_caret(bytes, rest)),
+        Kind::Quoted => Class::Quoted,
+        Kind::Text => Class::Text,
+        Kind::Symbol if text == b"^".as_slice() => Class::Caret,
+        Kind::Symbol => Class::Symbol,
+        Kind::Punct => class_of_punct(text),
+    }
+}

@@ -1,0 +1,217 @@
+// Reading rule files, and single rules among tokens.
+ghost use Rattle.std.specs.Prelude.{◌≡◌, [], ◌+◌, ◌<◌, ◌≤◌, ◌^◌, ◌-◌, ◌++◌, List, length, drop, All, IfOk, Ok};
+ghost use Rattle.lgc_grammar.specs.Reading.{whole};
+ghost use Rattle.lgc_lexer.specs.Spans.{AllIn};
+ghost use Rattle.lgc_lexer.specs.Tokens.{tokens_of};
+ghost use Rattle.lgc_clauses.specs.declared.rule.Rule.{Rule};
+ghost use Rattle.lgc_syntax.specs.declared.fault.InputFault.TheVariants.{Fault};
+ghost use Rattle.lgc_rules.specs.declared.number.TheConstants.{MOST_NUMBER};
+ghost use Rattle.lgc_rules.specs.declared.rule.Numbered.{Numbered};
+ghost use Rattle.lgc_rules.specs.Spelled.{Spelled, spelled_all, IsRest, IsShorter};
+ghost use Rattle.lgc_rules.specs.RuleReading.{next_rule_at, rules_at};
+ghost use Rattle.lgc_rules.specs.Gives.{Gives, Holds, IsTree, Tells, told_of, stop_told};
+ghost use Rattle.lgc_rules.specs.RuleFile.{IsRuleFor, FileGives, IsFileOf, file_read};
+ghost use Rattle.lgc_rules.specs.RulePlace.{AnyNumbered, RuleGives, rule_read};
+
+use crate::class::Class;
+use crate::fault::Stop;
+use crate::number::MOST_NUMBER;
+use crate::rule::{Numbered, one_rule};
+use crate::terminal::{Rest, Terminal, next_is, place};
+use lgc_clauses::Rule;
+use lgc_lexer::{LexFault, Token, lex};
+use lgc_syntax::{BAD_BYTE, FILE_TOO_LONG, InputFault, OPEN_QUOTE, UNEXPECTED};
+use lgc_values::{List, Matrix};
+use std::alloc::Global;
+
+/// The greatest length of a rule file, in bytes.
+pub(crate) const LONGEST_FILE: usize = 33_554_432;
+
+fn fault_at(number: u8, offset: u32) -> InputFault
+    ensures { result ≡ Fault number offset }
+{
+    InputFault::Fault { number, offset }
+}
+
+// The fault for which reading stops.
+fn fault_of(bytes: &[u8], stop: Stop) -> InputFault
+    requires { length bytes.now < 2 ^ 32 }
+    ensures { result ≡ stop_told bytes.now stop.entry }
+{
+    match stop {
+        Stop::Unexpected(rest) => fault_at(UNEXPECTED, place(bytes, rest)),
+        Stop::Breaks(number, rest) => fault_at(number, place(bytes, rest)),
+        Stop::Memory => InputFault::Memory,
+    }
+}
+
+// The next rule, whose number is its place, is appended.
+fn next_rule<'a, const N: usize>(
+    alloc: Global,
+    m: &Matrix<N>,
+    bytes: &[u8],
+    rules: &mut List<Rule<N>>,
+    tokens: &'a [Token],
+) -> Rest<'a>
+    requires inside { AllIn bytes.now tokens.now }
+    requires few { length rules.old < MOST_NUMBER }
+    ensures gives { Gives bytes.now (λ x. (rules.new, spelled_all bytes.now x.now)) result (next_rule_at N m.now rules.old (spelled_all bytes.now tokens.now)) }
+    ensures one { IfOk result (λ _. length rules.new ≡ length rules.old + 1) }
+    ensures rest { IfOk result (λ x. IsShorter bytes.now tokens.now x.now) }
+{
+    let number = rules.len() as u32 + 1;
+    match one_rule(alloc, m, bytes, number, number, tokens) {
+        Ok((next, rest)) => {
+            rules.push(next.rule)?;
+            Ok(rest)
+        }
+        Err(stop) => Err(stop),
+    }
+}
+
+// All rules.
+fn more_rules<'a, const N: usize>(
+    alloc: Global,
+    m: &Matrix<N>,
+    bytes: &[u8],
+    rules: &mut List<Rule<N>>,
+    tokens: &'a [Token],
+) -> Rest<'a>
+    requires inside { AllIn bytes.now tokens.now }
+    requires none { rules.old ≡ [] }
+    requires few { length tokens.now < MOST_NUMBER }
+    ensures gives { Gives bytes.now (λ x. (rules.new, spelled_all bytes.now x.now)) result (rules_at N m.now (spelled_all bytes.now tokens.now)) }
+{
+    let mut rest = tokens;
+    while next_is(bytes, Terminal::Only(Class::RuleWord), rest) {
+        rest = next_rule(alloc, m, bytes, rules, rest)?;
+    }
+    Ok(rest)
+}
+
+fn rules_of<const N: usize>(
+    alloc: Global,
+    m: &Matrix<N>,
+    bytes: &[u8],
+    tokens: &[Token],
+) -> Result<List<Rule<N>>, InputFault>
+    requires length { length bytes.now < 2 ^ 32 }
+    requires inside { AllIn bytes.now tokens.now }
+    requires few { length tokens.now < MOST_NUMBER }
+    ensures { Tells (λ rules. rules) result (told_of (length bytes.now) (whole (rules_at N m.now) (spelled_all bytes.now tokens.now))) }
+{
+    let mut rules = List::new(alloc);
+    match more_rules(alloc, m, bytes, &mut rules, tokens) {
+        Ok([]) => Ok(rules),
+        Ok(rest) => Err(fault_at(UNEXPECTED, place(bytes, rest))),
+        Err(stop) => Err(fault_of(bytes, stop)),
+    }
+}
+
+fn rules_in<const N: usize>(
+    alloc: Global,
+    m: &Matrix<N>,
+    bytes: &[u8],
+) -> Result<List<Rule<N>>, InputFault>
+    ensures { Tells (λ rules. rules) result (file_read N m.now bytes.now) }
+{
+    if bytes.len() > LONGEST_FILE {
+        return Err(fault_at(FILE_TOO_LONG, LONGEST_FILE as u32));
+    }
+    match lex(alloc, bytes) {
+        Ok(tokens) => rules_of(alloc, m, bytes, &tokens),
+        Err(LexFault::BadByte(offset)) => Err(fault_at(BAD_BYTE, offset)),
+        Err(LexFault::OpenQuote(offset)) => Err(fault_at(OPEN_QUOTE, offset)),
+        Err(LexFault::Memory) => Err(InputFault::Memory),
+    }
+}
+
+/// The rules of a rule file, in their order; or its first fault.
+///
+/// The faults are looked for in this order: the file is longer than 33,554,432 bytes, then the bytes have no tokens, and then
+/// the text is read from the left, up to the first token at which there is one. The numbers and places are those of `InputFault`'s
+/// constants. `Memory` may come at any bytes.
+pub fn read_rules<const N: usize>(
+    alloc: Global,
+    m: &Matrix<N>,
+    bytes: &[u8],
+) -> Result<List<Rule<N>>, InputFault>
+    // The rules are the grammar's, and a fault is at the first token with which no rule file goes on, or which breaks a rule.
+    ensures answer { Holds (FileGives N m.now bytes.now) result }
+    // What is in the grammar is read, with these rules alone.
+    ensures complete { (rules : List (Rule N)) → IsFileOf N m.now bytes.now rules → IsTree (λ rules. rules) result rules }
+    // Each is a rule for the logic.
+    ensures fits { IfOk result (λ rules. All (IsRuleFor N m.now) rules) }
+    // The same as one function of the bytes.
+    ensures exact { Tells (λ rules. rules) result (file_read N m.now bytes.now) }
+{
+    rules_in(alloc, m, bytes)
+}
+
+// The rule that begins with these tokens, and how many tokens are behind it.
+fn rule_behind<const N: usize>(
+    alloc: Global,
+    m: &Matrix<N>,
+    bytes: &[u8],
+    tokens: &[Token],
+) -> Result<(Numbered<N>, usize), InputFault>
+    requires length { length bytes.now < 2 ^ 32 }
+    requires inside { AllIn bytes.now tokens.now }
+    ensures exact { Tells (λ x. (x.0, drop (length tokens.now - x.1) (spelled_all bytes.now tokens.now))) result (rule_read N m.now (length bytes.now) (spelled_all bytes.now tokens.now)) }
+    ensures within { IfOk result (λ x. x.1 < length tokens.now) }
+{
+    match one_rule(alloc, m, bytes, 0, MOST_NUMBER, tokens) {
+        Ok((rule, rest)) => Ok((rule, rest.len())),
+        Err(stop) => Err(fault_of(bytes, stop)),
+    }
+}
+
+fn rule_from<const N: usize>(
+    alloc: Global,
+    m: &Matrix<N>,
+    bytes: &[u8],
+    tokens: &[Token],
+    at: usize,
+) -> Result<(Numbered<N>, usize), InputFault>
+    requires length { length bytes.now < 2 ^ 32 }
+    requires inside { AllIn bytes.now tokens.now }
+    requires at { at ≤ length tokens.now }
+    ensures exact { Tells (λ x. (x.0, drop x.1 (spelled_all bytes.now tokens.now))) result (rule_read N m.now (length bytes.now) (drop at (spelled_all bytes.now tokens.now))) }
+    ensures behind { IfOk result (λ x. at < x.1) }
+    ensures within { IfOk result (λ x. x.1 ≤ length tokens.now) }
+{
+    let (_, from) = tokens.split_at(at);
+    match rule_behind(alloc, m, bytes, from) {
+        Ok((rule, left)) => Ok((rule, tokens.len() - left)),
+        Err(fault) => Err(fault),
+    }
+}
+
+/// The rule that begins at token `at`, counted from 0, with any number, and the place of the token behind it; or the first
+/// fault from there on.
+///
+/// The tokens are those of `lex` over the bytes. `Memory` may come at any tokens.
+pub fn rule_at<const N: usize>(
+    alloc: Global,
+    m: &Matrix<N>,
+    bytes: &[u8],
+    tokens: &[Token],
+    at: usize,
+) -> Result<(Numbered<N>, usize), InputFault>
+    requires length { length bytes.now < 2 ^ 32 }
+    requires tokens { tokens_of bytes.now ≡ Ok tokens.now }
+    requires at { at ≤ length tokens.now }
+    // The rule is one of the grammar, and a fault is at the first token with which no rule goes on, or which breaks a rule.
+    ensures answer { Holds (RuleGives N m.now (length bytes.now) (spelled_all bytes.now tokens.now) at) result }
+    // A rule that stands there is read.
+    ensures complete { (rule : Numbered N) (front rest : List Spelled) → drop at (spelled_all bytes.now tokens.now) ≡ front ++ rest → AnyNumbered N m.now rule front → IsTree {A = Numbered N × List Spelled} (λ x. (x.0, drop x.1 (spelled_all bytes.now tokens.now))) result (rule, rest) }
+    // It is a rule for the logic.
+    ensures fits { IfOk result (λ x. IsRuleFor N m.now x.0.rule) }
+    // The place behind it is behind that of its first token.
+    ensures behind { IfOk result (λ x. at < x.1) }
+    ensures within { IfOk result (λ x. x.1 ≤ length tokens.now) }
+    // The same as one function of the tokens.
+    ensures exact { Tells (λ x. (x.0, drop x.1 (spelled_all bytes.now tokens.now))) result (rule_read N m.now (length bytes.now) (drop at (spelled_all bytes.now tokens.now))) }
+{
+    rule_from(alloc, m, bytes, tokens, at)
+}

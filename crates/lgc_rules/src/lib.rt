@@ -1,0 +1,26 @@
+//! Reading rules for operators against a logic.
+//!
+//! - [`read_rules`] reads a rule file: the rules in their order, or the first fault.
+//! - [`rule_at`] reads one rule among the tokens of a larger text, whatever its number is, and tells the token behind it.
+//! - A [`Numbered`] is a rule with the number that is written before it.
+//!
+//! `specs/RuleGrammar.antt` is the grammar of rule files, whose phrases keep every rule that a logic asks for, and
+//! `specs/PlainGrammar.antt` the same lines without those rules. What is in the first is read, with its one tree. Else the
+//! answer is the first token with which no text of the second goes on, or which breaks a rule. The readers, in
+//! `specs/RuleReading.antt`, follow the grammar line by line, and each function is proved to be one of them.
+#![tactic(auto)]
+
+mod class;
+mod clause;
+mod fault;
+mod file;
+mod number;
+mod rule;
+mod set;
+mod terminal;
+
+pub use file::{read_rules, rule_at};
+pub use rule::Numbered;
+
+#[cfg(test)]
+mod tests;

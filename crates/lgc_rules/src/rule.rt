@@ -1,0 +1,168 @@
+// Rules with their numbers.
+ghost use Rattle.std.specs.Prelude.{◌≡◌, [], ◌<◌, length, position, IfOk, IfSome};
+ghost use Rattle.std.specs.Str.{bytes_eq};
+ghost use Rattle.lgc_values.specs.Logic.{operator_at};
+ghost use Rattle.lgc_lexer.specs.Spans.{AllIn};
+ghost use Rattle.lgc_rules.specs.Spelled.{spelled_all, IsShorter};
+ghost use Rattle.lgc_rules.specs.Names.{operator_named};
+ghost use Rattle.lgc_rules.specs.RuleReading.{operator_name_at, operator_head_at, quantifier_name_at, quantifier_head_at, head_at, rule_at};
+ghost use Rattle.lgc_rules.specs.Gives.{Gives};
+
+use crate::class::Class;
+use crate::clause::read_clauses;
+use crate::fault::Stop;
+use crate::set::read_set;
+use crate::terminal::{Reading, Terminal, is_a, next_is, number_from, one};
+use lgc_clauses::{OpRule, Rule};
+use lgc_lexer::{Token, content};
+use lgc_syntax::{MISNUMBERED, UNKNOWN_NAME, WRONG_ARITY};
+use lgc_values::{List, Matrix, Operator};
+use std::alloc::Global;
+
+/// A rule with the number that is written before it.
+#[derive(Debug, Drop)]
+pub struct Numbered<const N: usize> {
+    pub number: u32,
+    pub rule: Rule<N>,
+}
+
+// The place of the operator with this name.
+fn place_of(operators: &[Operator], text: &[u8]) -> Option<usize>
+    ensures place { result ≡ position (λ o. bytes_eq o.name text.now) operators.now }
+    ensures below { IfSome result (λ place. place < length operators.now) }
+{
+    operators
+        .iter()
+        .position(|operator| operator.name.bytes() == text)
+}
+
+// The operator with this name.
+fn operator_named<const N: usize>(m: &Matrix<N>, text: &[u8]) -> Option<u16>
+    ensures operator { result ≡ operator_named m.now text.now }
+    ensures below { IfSome result (λ op. op < length m.now.operators) }
+{
+    match place_of(m.operators(), text) {
+        Some(place) => Some(place as u16),
+        None => None,
+    }
+}
+
+fn arity_of<const N: usize>(m: &Matrix<N>, op: u16) -> u8
+    requires { op < length m.now.operators }
+    ensures { result ≡ (operator_at m.now op).arity }
+{
+    m.operators()[op as usize].arity
+}
+
+// The operator that the next token names.
+#[tactic(auto, unfolding(crate::specs::RuleReading::operator_name_at))]
+fn operator_name<'a, const N: usize>(
+    m: &Matrix<N>,
+    bytes: &[u8],
+    tokens: &'a [Token],
+) -> Reading<'a, u16>
+    requires { AllIn bytes.now tokens.now }
+    ensures gives { Gives bytes.now (λ x. (x.0, spelled_all bytes.now x.1.now)) result (operator_name_at m.now (spelled_all bytes.now tokens.now)) }
+    ensures below { IfOk result (λ x. x.0 < length m.now.operators) }
+    ensures rest { IfOk result (λ x. IsShorter bytes.now tokens.now x.1.now) }
+{
+    match tokens.split_first() {
+        Some((token, rest)) if is_a(bytes, Terminal::Name, token, rest) => {
+            match operator_named(m, content(bytes, token)) {
+                Some(op) => Ok((op, rest)),
+                None => Err(Stop::Breaks(UNKNOWN_NAME, tokens)),
+            }
+        }
+        _ => Err(Stop::Unexpected(tokens)),
+    }
+}
+
+// The operator of a head, whose arity is written behind its name.
+#[tactic(auto, unfolding(crate::specs::RuleReading::operator_head_at))]
+fn operator_head<'a, const N: usize>(
+    m: &Matrix<N>,
+    bytes: &[u8],
+    tokens: &'a [Token],
+) -> Reading<'a, u16>
+    requires { AllIn bytes.now tokens.now }
+    ensures gives { Gives bytes.now (λ x. (x.0, spelled_all bytes.now x.1.now)) result (operator_head_at m.now (spelled_all bytes.now tokens.now)) }
+    ensures below { IfOk result (λ x. x.0 < length m.now.operators) }
+    ensures rest { IfOk result (λ x. IsShorter bytes.now tokens.now x.1.now) }
+{
+    let (_, rest) = one(bytes, Terminal::Only(Class::OperatorWord), tokens)?;
+    let (op, rest) = operator_name(m, bytes, rest)?;
+    let (_, rest) = one(bytes, Terminal::Only(Class::Slash), rest)?;
+    let arity = u32::from(arity_of(m, op));
+    let (_, rest) = number_from(bytes, arity, arity, WRONG_ARITY, Terminal::Number, rest)?;
+    Ok((op, rest))
+}
+
+// The name of a quantifier, of which there are none.
+#[tactic(auto, unfolding(crate::specs::RuleReading::quantifier_name_at))]
+fn quantifier_name<'a>(bytes: &[u8], tokens: &'a [Token]) -> Reading<'a, u16>
+    requires { AllIn bytes.now tokens.now }
+    ensures gives { Gives bytes.now (λ x. (x.0, spelled_all bytes.now x.1.now)) result (quantifier_name_at (spelled_all bytes.now tokens.now)) }
+    ensures none { IfOk result (λ _. ⊥) }
+{
+    if next_is(bytes, Terminal::Name, tokens) {
+        Err(Stop::Breaks(UNKNOWN_NAME, tokens))
+    } else {
+        Err(Stop::Unexpected(tokens))
+    }
+}
+
+#[tactic(auto, unfolding(crate::specs::RuleReading::quantifier_head_at))]
+fn quantifier_head<'a>(bytes: &[u8], tokens: &'a [Token]) -> Reading<'a, u16>
+    requires { AllIn bytes.now tokens.now }
+    ensures gives { Gives bytes.now (λ x. (x.0, spelled_all bytes.now x.1.now)) result (quantifier_head_at (spelled_all bytes.now tokens.now)) }
+    ensures none { IfOk result (λ _. ⊥) }
+{
+    let (_, rest) = one(bytes, Terminal::Only(Class::QuantifierWord), tokens)?;
+    quantifier_name(bytes, rest)
+}
+
+// The operator of a head.
+#[tactic(auto, unfolding(crate::specs::RuleReading::head_at))]
+fn head<'a, const N: usize>(m: &Matrix<N>, bytes: &[u8], tokens: &'a [Token]) -> Reading<'a, u16>
+    requires { AllIn bytes.now tokens.now }
+    ensures gives { Gives bytes.now (λ x. (x.0, spelled_all bytes.now x.1.now)) result (head_at m.now (spelled_all bytes.now tokens.now)) }
+    ensures below { IfOk result (λ x. x.0 < length m.now.operators) }
+    ensures rest { IfOk result (λ x. IsShorter bytes.now tokens.now x.1.now) }
+{
+    if next_is(bytes, Terminal::Only(Class::OperatorWord), tokens) {
+        operator_head(m, bytes, tokens)
+    } else {
+        quantifier_head(bytes, tokens)
+    }
+}
+
+/// A rule, whose number has to be one from `least` to `most`.
+#[tactic(auto, unfolding(crate::specs::RuleReading::rule_at))]
+pub(crate) fn one_rule<'a, const N: usize>(
+    alloc: Global,
+    m: &Matrix<N>,
+    bytes: &[u8],
+    least: u32,
+    most: u32,
+    tokens: &'a [Token],
+) -> Reading<'a, Numbered<N>>
+    requires { AllIn bytes.now tokens.now }
+    ensures gives { Gives bytes.now (λ x. (x.0, spelled_all bytes.now x.1.now)) result (rule_at N m.now least most (spelled_all bytes.now tokens.now)) }
+    ensures rest { IfOk result (λ x. IsShorter bytes.now tokens.now x.1.now) }
+{
+    let (_, rest) = one(bytes, Terminal::Only(Class::RuleWord), tokens)?;
+    let (number, rest) = number_from(bytes, least, most, MISNUMBERED, Terminal::Number, rest)?;
+    let (_, rest) = one(bytes, Terminal::Only(Class::Colon), rest)?;
+    let (op, rest) = head(m, bytes, rest)?;
+    let (_, rest) = one(bytes, Terminal::Only(Class::AtWord), rest)?;
+    let mut sign = m.designated();
+    let rest = read_set(m, bytes, &mut sign, rest)?;
+    let (_, rest) = one(bytes, Terminal::Only(Class::Colon), rest)?;
+    let (_, rest) = one(bytes, Terminal::Only(Class::OpenSquare), rest)?;
+    let mut clauses = List::new(alloc);
+    let rest = read_clauses(alloc, m, bytes, arity_of(m, op), &mut clauses, rest)?;
+    let (_, rest) = one(bytes, Terminal::Only(Class::CloseSquare), rest)?;
+    let (_, rest) = one(bytes, Terminal::Only(Class::Dot), rest)?;
+    let rule = Rule::Operator(OpRule { op, sign, clauses });
+    Ok((Numbered { number, rule }, rest))
+}

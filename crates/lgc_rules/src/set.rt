@@ -1,0 +1,111 @@
+// Sets of truth values.
+ghost use Rattle.std.specs.Prelude.{◌≡◌, [], ◌∷◌, ◌<◌, length, position, IfOk, IfSome};
+ghost use Rattle.std.specs.Str.{bytes_eq};
+ghost use Rattle.lgc_values.specs.Values.{IsSize};
+ghost use Rattle.lgc_lexer.specs.Spans.{AllIn};
+ghost use Rattle.lgc_rules.specs.Spelled.{spelled_all, IsRest, IsShorter};
+ghost use Rattle.lgc_rules.specs.Names.{value_named};
+ghost use Rattle.lgc_rules.specs.RuleReading.{value_at, next_value_at, more_values_at, set_at};
+ghost use Rattle.lgc_rules.specs.Gives.{Gives};
+
+use crate::class::Class;
+use crate::fault::Stop;
+use crate::terminal::{Reading, Rest, Terminal, is_a, next_is, one};
+use lgc_lexer::{Token, content};
+use lgc_syntax::UNKNOWN_VALUE;
+use lgc_values::{Matrix, Name, ValueSet};
+
+// The place of a text among the names.
+fn place_of(names: &[Name], text: &[u8]) -> Option<usize>
+    ensures place { result ≡ position (λ name. bytes_eq name text.now) names.now }
+    ensures below { IfSome result (λ place. place < length names.now) }
+{
+    names.iter().position(|name| name.bytes() == text)
+}
+
+// The truth value with this name.
+fn value_named<const N: usize>(m: &Matrix<N>, text: &[u8]) -> Option<u8>
+    ensures value { result ≡ value_named m.now text.now }
+    ensures below { IfSome result (λ value. value < N) }
+    ensures size { IsSize N }
+{
+    match place_of(m.names(), text) {
+        Some(place) => Some(place as u8),
+        None => None,
+    }
+}
+
+// The truth value that the next token names.
+#[tactic(auto, unfolding(crate::specs::RuleReading::value_at))]
+fn value<'a, const N: usize>(m: &Matrix<N>, bytes: &[u8], tokens: &'a [Token]) -> Reading<'a, u8>
+    requires { AllIn bytes.now tokens.now }
+    ensures gives { Gives bytes.now (λ x. (x.0, spelled_all bytes.now x.1.now)) result (value_at m.now (spelled_all bytes.now tokens.now)) }
+    ensures below { IfOk result (λ x. x.0 < N) }
+    ensures size { IfOk result (λ _. IsSize N) }
+    ensures rest { IfOk result (λ x. IsShorter bytes.now tokens.now x.1.now) }
+{
+    match tokens.split_first() {
+        Some((token, rest)) if is_a(bytes, Terminal::Value, token, rest) => {
+            match value_named(m, content(bytes, token)) {
+                Some(value) => Ok((value, rest)),
+                None => Err(Stop::Breaks(UNKNOWN_VALUE, tokens)),
+            }
+        }
+        _ => Err(Stop::Unexpected(tokens)),
+    }
+}
+
+// A comma and a value, which is added to the set.
+fn next_value<'a, const N: usize>(
+    m: &Matrix<N>,
+    bytes: &[u8],
+    set: &mut ValueSet<N>,
+    tokens: &'a [Token],
+) -> Rest<'a>
+    requires { AllIn bytes.now tokens.now }
+    ensures gives { Gives bytes.now (λ x. (set.new, spelled_all bytes.now x.now)) result (next_value_at N m.now set.old (spelled_all bytes.now tokens.now)) }
+    ensures rest { IfOk result (λ x. IsShorter bytes.now tokens.now x.now) }
+{
+    let (_, rest) = one(bytes, Terminal::Only(Class::Comma), tokens)?;
+    let (value, rest) = value(m, bytes, rest)?;
+    *set = set.with(value);
+    Ok(rest)
+}
+
+// Values behind that of a set, each behind a comma.
+fn more_values<'a, const N: usize>(
+    m: &Matrix<N>,
+    bytes: &[u8],
+    set: &mut ValueSet<N>,
+    tokens: &'a [Token],
+) -> Rest<'a>
+    requires { AllIn bytes.now tokens.now }
+    ensures gives { Gives bytes.now (λ x. (set.new, spelled_all bytes.now x.now)) result (more_values_at N m.now set.old (spelled_all bytes.now tokens.now)) }
+    ensures rest { IfOk result (λ x. IsRest bytes.now tokens.now x.now) }
+{
+    let mut rest = tokens;
+    while next_is(bytes, Terminal::Only(Class::Comma), rest) {
+        rest = next_value(m, bytes, set, rest)?;
+    }
+    Ok(rest)
+}
+
+/// Reads a set of truth values in braces, which may stand in any order and repeat.
+#[tactic(auto, unfolding(crate::specs::RuleReading::set_at))]
+pub(crate) fn read_set<'a, const N: usize>(
+    m: &Matrix<N>,
+    bytes: &[u8],
+    set: &mut ValueSet<N>,
+    tokens: &'a [Token],
+) -> Rest<'a>
+    requires { AllIn bytes.now tokens.now }
+    ensures gives { Gives bytes.now (λ x. (set.new, spelled_all bytes.now x.now)) result (set_at N m.now (spelled_all bytes.now tokens.now)) }
+    ensures rest { IfOk result (λ x. IsShorter bytes.now tokens.now x.now) }
+{
+    let (_, rest) = one(bytes, Terminal::Only(Class::OpenBrace), tokens)?;
+    let (value, rest) = value(m, bytes, rest)?;
+    *set = ValueSet::single(value);
+    let rest = more_values(m, bytes, set, rest)?;
+    let (_, rest) = one(bytes, Terminal::Only(Class::CloseBrace), rest)?;
+    Ok(rest)
+}

@@ -1,0 +1,110 @@
+-- The files of a command mean one status, the one that is answered.
+use Rattle.std.proofs.Common.{◌≡◌, ℕ, true, false, List, Some, None, Result, Ok, Err, refl, sym, ap, subst, ◌∙◌, inl, inr}
+use Rattle.std.specs.Prelude.{◌⊎◌, Option, IfSome, IsSomeAnd}
+use Rattle.lgc_io.specs.Files.{FilesState, Holds, file_at}
+use Rattle.lgc_io.specs.Sinks.{TakesPart}
+use Rattle.lgc_values.specs.Logic.{Logic}
+use Rattle.lgc_clauses.specs.declared.rule.Rule.{Rule}
+use Rattle.lgc_spec.specs.declared.spec.Spec.{Spec}
+use Rattle.lgc_spec.specs.declared.fault.SpecFault.{SpecFault}
+use Rattle.lgc_spec.specs.declared.fault.SpecFault.TheVariants.{Fault}
+use Rattle.lgc_spec.specs.Logics.{logic_of}
+use Rattle.lgc_spec.specs.Specification.{BytesGive}
+use Rattle.lgc_spec.proofs.OneSpec.{one_answer}
+use Rattle.lgc_syntax.specs.declared.fault.InputFault.{InputFault}
+use Rattle.lgc_rules.specs.RuleFile.{file_read}
+use Rattle.lgc_top.specs.declared.status.Status.{Status}
+use Rattle.lgc_top.specs.declared.status.Status.TheVariants.{Done, Usage, BadSpec, BadInput, Rejected, ReadFault, WriteFault, Memory}
+use Rattle.lgc_top.specs.Commands.{Command, Calculus, Verify, spec_of, input_of, command_of}
+use Rattle.lgc_top.specs.Run.{Run, Ends, Answers, CommandAnswers, WordsAnswer, Works, Puts, HasInput, Tells, RulesMean, SpecMeans, CommandMeans, Means, IsFaultless}
+
+-- what a file that is told holds is one list of bytes
+held_once : (files : FilesState) (file bytes other : List ℕ) → Holds files file bytes → Tells files file other → bytes ≡ other
+held_once files file bytes other held told = by files.told held told where
+  by : (all : Option (List (List ℕ × List ℕ))) → IfSome all (λ told. file_at told file ≡ Some bytes) → IsSomeAnd all (λ told. file_at told file ≡ Some other) → bytes ≡ other
+  by None held told = absurd told
+  by (Some all) held told = let same : Some bytes ≡ Some other = sym held ∙ told in cc
+
+-- ---- an answered status is meant
+
+second_held : (file rules : List ℕ) (files : FilesState) (spec : Spec) (bytes : List ℕ) → HasInput (Verify file rules) files spec bytes → Holds files rules bytes
+second_held file rules files spec bytes has = let same : has.file ≡ rules = (let some : Some rules ≡ Some has.file = has.named in cc) in subst (λ f. Holds files f bytes) same has.held
+
+works_mean : (command : Command) (files : FilesState) (status : Status) (text : List ℕ) → Works command files status text → CommandMeans (Holds files) command status
+works_mean (Calculus file) files Done text (spec, has, calculus) = (has.bytes, Ok spec, has.held, has.given, refl)
+works_mean (Calculus file) files _ text h = absurd h
+works_mean (Verify file rules) files Done text (spec, bytes, has, verdicts) =
+    (has.logic.bytes, Ok spec, has.logic.held, has.logic.given, (bytes, second_held file rules files spec bytes has, rw verdicts.given.exact (verdicts.decided.0 refl)))
+works_mean (Verify file rules) files Rejected text (spec, bytes, has, verdicts) =
+    (has.logic.bytes, Ok spec, has.logic.held, has.logic.given, (bytes, second_held file rules files spec bytes has, rw verdicts.given.exact (λ all. let no : false ≡ true = verdicts.decided.1 all in absurd cc)))
+works_mean (Verify file rules) files _ text h = absurd h
+
+faults_mean : (command : Command) (files files_after : FilesState) (line : List ℕ) → CommandAnswers command files files_after BadInput line → CommandMeans (Holds files) command BadInput
+faults_mean (Calculus file) files files_after line (spec, bytes, has, fault) = absurd fault.given
+faults_mean (Verify file rules) files files_after line (spec, bytes, has, fault) =
+    (has.logic.bytes, Ok spec, has.logic.held, has.logic.given, (bytes, second_held file rules files spec bytes has, rw fault.given.exact refl))
+
+answers_mean : (command : Command) (files files_after : FilesState) (status : Status) (bytes : List ℕ) → CommandAnswers command files files_after status bytes → (status ≡ ReadFault → ⊥) → CommandMeans (Holds files) command status
+answers_mean command files files_after ReadFault line h other = absurd (other refl)
+answers_mean command files files_after BadSpec line (bytes, held, fault) other = (bytes, Err (Fault fault.number fault.offset fault.kept), held, fault.given, refl)
+answers_mean command files files_after BadInput line h other = faults_mean command files files_after line h
+answers_mean command files files_after Done text h other = works_mean command files Done text h
+answers_mean command files files_after Rejected text h other = works_mean command files Rejected text h
+answers_mean command files files_after Usage text h other = works_mean command files Usage text h
+answers_mean command files files_after WriteFault text h other = works_mean command files WriteFault text h
+answers_mean command files files_after Memory text h other = works_mean command files Memory text h
+
+-- ---- one status is meant
+
+rules_once : (logic : Logic) (told : Result (List (Rule logic.size)) InputFault) (a b : Status) → RulesMean logic told a → RulesMean logic told b → a ≡ b
+rules_once logic (Err fault) a b p q = p ∙ sym q
+rules_once logic (Ok rules) Done Done p q = refl
+rules_once logic (Ok rules) Done Rejected p q = absurd (q p)
+rules_once logic (Ok rules) Rejected Done p q = absurd (p q)
+rules_once logic (Ok rules) Rejected Rejected p q = refl
+rules_once logic (Ok rules) Done _ p q = absurd q
+rules_once logic (Ok rules) Rejected _ p q = absurd q
+rules_once logic (Ok rules) _ _ p q = absurd p
+
+module _ (files : FilesState) where
+  spec_once : (command : Command) (found : Result Spec SpecFault) (a b : Status) → SpecMeans (Holds files) command found a → SpecMeans (Tells files) command found b → a ≡ b
+  spec_once command (Err fault) a b p q = p ∙ sym q
+  spec_once (Calculus file) (Ok spec) a b p q = p ∙ sym q
+  spec_once (Verify file rules) (Ok spec) a b (bytes, held, p) (other, told, q) =
+      let logic : Logic = logic_of spec in
+      let same : bytes ≡ other = held_once files rules bytes other held told in
+      rules_once logic (file_read logic.size logic bytes) a b p (subst (λ some. RulesMean logic (file_read logic.size logic some) b) (sym same) q)
+
+  means_once : (command : Command) (a b : Status) → CommandMeans (Holds files) command a → CommandMeans (Tells files) command b → a ≡ b
+  means_once command a b (bytes, found, held, gives, p) (other, also, told, given, q) =
+      let same : bytes ≡ other = held_once files (spec_of command) bytes other held told in
+      let one : found ≡ also = one_answer bytes found also gives (subst (λ some. BytesGive some also) (sym same) given) in
+      spec_once command found a b p (subst (λ f. SpecMeans (Tells files) command f b) (sym one) q)
+
+-- what is answered is what the files mean
+module _ (run : Run) (meant : Status) (means : Means run meant) (none : IsFaultless run) where
+  answered : (status : Status) (bytes : List ℕ) → Answers run status bytes → CommandAnswers means.command run.files run.files_after status bytes
+  answered status bytes answers = subst (λ found. WordsAnswer found run.files run.files_after status bytes) means.asked answers
+
+  is_meant : (status : Status) (bytes : List ℕ) → Answers run status bytes → (status ≡ ReadFault → ⊥) → status ≡ meant
+  is_meant status bytes answers other =
+      means_once run.files means.command status meant (answers_mean means.command run.files run.files_after status bytes (answered status bytes answers) other) means.meant
+
+  pub completes : (ended : Status) → Ends run ended → (ended ≡ meant) ⊎ (ended ≡ Memory)
+  completes Done (bytes, answers, _) = inl (is_meant Done bytes answers (λ e. absurd cc))
+  completes Rejected (bytes, answers, _) = inl (is_meant Rejected bytes answers (λ e. absurd cc))
+  completes Usage (bytes, answers, _) = inl (is_meant Usage bytes answers (λ e. absurd cc))
+  completes BadSpec (bytes, answers, _) = inl (is_meant BadSpec bytes answers (λ e. absurd cc))
+  completes BadInput (bytes, answers, _) = inl (is_meant BadInput bytes answers (λ e. absurd cc))
+  completes Memory ends = inr refl
+  completes ReadFault (bytes, answers, _) = let (file, read, failed, line) = answered ReadFault bytes answers in absurd (none.files failed.rose)
+  completes WriteFault (status, bytes, answers, puts) = absurd (rises status puts) where
+    rises : (status : Status) → Puts run status (λ old new. TakesPart old new bytes) → ⊥
+    rises Done (takes, _) = none.out takes.rose
+    rises Rejected (takes, _) = none.out takes.rose
+    rises Usage (takes, _) = none.err takes.rose
+    rises BadSpec (takes, _) = none.err takes.rose
+    rises BadInput (takes, _) = none.err takes.rose
+    rises ReadFault (takes, _) = none.err takes.rose
+    rises WriteFault (takes, _) = none.err takes.rose
+    rises Memory (takes, _) = none.err takes.rose

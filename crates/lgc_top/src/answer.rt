@@ -1,0 +1,248 @@
+// From the words and the files to the answer.
+ghost use Rattle.std.specs.Prelude.{◌≡◌, ◌<◌, ◌^◌, ℕ, List, length, map, string_bytes, IfOk, MatchOption, MatchResult, Some, None};
+ghost use Rattle.lgc_values.specs.Logic.{IsLogic};
+ghost use Rattle.lgc_io.specs.Files.{FilesState, Holds, IsLonger};
+ghost use Rattle.lgc_spec.specs.declared.spec.Spec.{Spec};
+ghost use Rattle.lgc_spec.specs.Logics.{logic_of};
+ghost use Rattle.lgc_syntax.specs.declared.fault.TheConstants.{FILE_TOO_LONG};
+ghost use Rattle.lgc_top.specs.FaultLine.{fault_line, input_line};
+ghost use Rattle.lgc_top.specs.Commands as commands;
+ghost use Rattle.lgc_top.specs.Commands.{Calculus, Verify, spec_of, input_of, command_of};
+ghost use Rattle.lgc_top.specs.Run.{HasSpec, HasInput, HasInputFault};
+ghost use Rattle.lgc_top.specs.Steps.{Answered, Stops, ReadStops, Refuses, verdict_status};
+
+use crate::command::{Command, command_of};
+use crate::fault_line::{fault_line, input_line, read_line};
+use crate::status::Status;
+use crate::work::{calculus_of, verdicts_of};
+use lgc_io::{FileFault, Files, Reading};
+use lgc_spec::{Kept, Spec, SpecFault, read_spec};
+use lgc_syntax::InputFault;
+use std::alloc::{AllocError, Global};
+
+/// The greatest length of a rule file, in bytes.
+const LONGEST_RULES: u32 = 33_554_432;
+
+/// The bytes of an answer, and the status under which they are put.
+#[derive(Drop)]
+pub(crate) struct Answer {
+    pub status: Status,
+    pub bytes: Vec<u8>,
+}
+
+/// Why the work of a command isn't done.
+#[derive(Drop)]
+pub(crate) enum Stop {
+    /// A file can't be read or has a fault, and this is the answer.
+    Refused(Answer),
+    /// Memory ran out.
+    Memory,
+}
+
+// ---- refusals
+
+fn refused(status: Status, line: Result<Vec<u8>, AllocError>) -> Stop
+    ensures { (text : List ℕ) → IfOk line (λ line. line.items ≡ text) → Refuses status text result }
+{
+    match line {
+        Ok(bytes) => Stop::Refused(Answer { status, bytes }),
+        Err(_) => Stop::Memory,
+    }
+}
+
+fn bad_spec(alloc: Global, number: u8, offset: u32, kept: &Kept) -> Stop
+    ensures { Refuses Status.BadSpec (fault_line number offset kept.now) result }
+{
+    refused(Status::BadSpec, fault_line(alloc, number, offset, kept))
+}
+
+fn bad_input(alloc: Global, number: u8, offset: u32) -> Stop
+    ensures { Refuses Status.BadInput (input_line number offset) result }
+{
+    refused(Status::BadInput, input_line(alloc, number, offset))
+}
+
+// ---- files
+
+// The bytes of the file of this name, unless there are more than `limit`.
+fn read<F: Files>(
+    alloc: Global,
+    files: &mut F,
+    name: &str,
+    limit: usize,
+) -> Result<Option<Vec<u8>>, Stop>
+    ensures read { MatchResult result (λ found. MatchOption found (IsLonger (F.state files.old) name.now limit) (λ bytes. Holds (F.state files.old) name.now bytes.items)) (ReadStops (F.state files.old) (F.state files.new) name.now) }
+    ensures kept { IfOk result (λ _. F.state files.new ≡ F.state files.old) }
+{
+    let mut bytes = Vec::new(alloc);
+    match files.read_file(name, limit, &mut bytes) {
+        Ok(Reading::Whole) => Ok(Some(bytes)),
+        Ok(Reading::TooLong) => Ok(None),
+        Err(FileFault::Failed) => Err(refused(Status::ReadFault, read_line(alloc, name))),
+        Err(FileFault::Memory) => Err(Stop::Memory),
+    }
+}
+
+// The logic of the bytes of a specification.
+fn spec_in(alloc: Global, bytes: &[u8]) -> Result<Spec, Stop>
+    ensures spec { (command : commands.Command) (files files_after : FilesState) → Holds files (spec_of command) bytes.now →
+        MatchResult result (λ spec. HasSpec command files spec) (Stops (Some command) files files_after) }
+    ensures logic { IfOk result (λ spec. IsLogic (logic_of spec)) }
+    ensures designated { IfOk result (λ spec. spec.designated < 2 ^ length spec.values) }
+{
+    match read_spec(alloc, bytes) {
+        Ok(spec) => Ok(spec),
+        Err(
+            SpecFault::Fault {
+                number,
+                offset,
+                kept,
+            },
+        ) => Err(bad_spec(alloc, number, offset, &kept)),
+        Err(SpecFault::Memory) => Err(Stop::Memory),
+    }
+}
+
+// The logic of the specification in the file of this name, which is the first file of a command.
+fn read_first<F: Files>(alloc: Global, files: &mut F, name: &str) -> Result<Spec, Stop>
+    ensures spec { (command : commands.Command) → spec_of command ≡ name.now →
+        MatchResult result (λ spec. HasSpec command (F.state files.old) spec) (Stops (Some command) (F.state files.old) (F.state files.new)) }
+    ensures kept { IfOk result (λ _. F.state files.new ≡ F.state files.old) }
+    ensures logic { IfOk result (λ spec. IsLogic (logic_of spec)) }
+    ensures designated { IfOk result (λ spec. spec.designated < 2 ^ length spec.values) }
+{
+    match read(alloc, files, name, lgc_spec::LONGEST_FILE) {
+        Ok(Some(bytes)) => spec_in(alloc, &bytes),
+        Ok(None) => Err(bad_spec(
+            alloc,
+            lgc_spec::FILE_TOO_LONG,
+            lgc_spec::LONGEST_FILE as u32,
+            &Kept::Nothing,
+        )),
+        Err(stop) => Err(stop),
+    }
+}
+
+// The bytes of the file of this name, which is the second file of a command. It has at most `limit` bytes.
+fn read_second<F: Files>(
+    alloc: Global,
+    files: &mut F,
+    name: &str,
+    limit: u32,
+) -> Result<Vec<u8>, Stop>
+    ensures { (command : commands.Command) (spec : Spec) → input_of command ≡ Some name.now → HasSpec command (F.state files.old) spec →
+        ((bytes : List ℕ) → limit < length bytes → HasInputFault command (logic_of spec) bytes FILE_TOO_LONG limit) →
+        MatchResult result (λ bytes. HasInput command (F.state files.old) spec bytes.items) (Stops (Some command) (F.state files.old) (F.state files.new)) }
+{
+    match read(alloc, files, name, limit as usize) {
+        Ok(Some(bytes)) => Ok(bytes),
+        Ok(None) => Err(bad_input(alloc, lgc_syntax::FILE_TOO_LONG, limit)),
+        Err(stop) => Err(stop),
+    }
+}
+
+// ---- commands
+
+fn printed(alloc: Global, spec: &Spec) -> Result<Answer, Stop>
+    requires logic { IsLogic (logic_of spec.now) }
+    requires designated { spec.now.designated < 2 ^ length spec.now.values }
+    ensures { (file : List ℕ) (files files_after : FilesState) → HasSpec (Calculus file) files spec.now →
+        Answered (Some (Calculus file)) files files_after result }
+{
+    match calculus_of(alloc, spec) {
+        Ok(bytes) => Ok(Answer {
+            status: Status::Done,
+            bytes,
+        }),
+        Err(_) => Err(Stop::Memory),
+    }
+}
+
+fn calculus<F: Files>(alloc: Global, files: &mut F, name: &str) -> Result<Answer, Stop>
+    ensures { Answered (Some (Calculus name.now)) (F.state files.old) (F.state files.new) result }
+{
+    match read_first(alloc, files, name) {
+        Ok(spec) => printed(alloc, &spec),
+        Err(stop) => Err(stop),
+    }
+}
+
+fn verdict_status(all_right: bool) -> Status
+    ensures { result ≡ verdict_status all_right }
+{
+    if all_right {
+        Status::Done
+    } else {
+        Status::Rejected
+    }
+}
+
+fn verdicts(alloc: Global, spec: &Spec, bytes: &[u8]) -> Result<Answer, Stop>
+    requires logic { IsLogic (logic_of spec.now) }
+    requires designated { spec.now.designated < 2 ^ length spec.now.values }
+    ensures { (file rules : List ℕ) (files files_after : FilesState) → HasInput (Verify file rules) files spec.now bytes.now →
+        Answered (Some (Verify file rules)) files files_after result }
+{
+    match verdicts_of(alloc, spec, bytes) {
+        Ok(judged) => Ok(Answer {
+            status: verdict_status(judged.all_right),
+            bytes: judged.lines,
+        }),
+        Err(InputFault::Fault { number, offset }) => Err(bad_input(alloc, number, offset)),
+        Err(InputFault::Memory) => Err(Stop::Memory),
+    }
+}
+
+// Verdicts on the rules in the file of this name, which is the second file.
+fn verify_against<F: Files>(
+    alloc: Global,
+    files: &mut F,
+    spec: &Spec,
+    rules: &str,
+) -> Result<Answer, Stop>
+    requires logic { IsLogic (logic_of spec.now) }
+    requires designated { spec.now.designated < 2 ^ length spec.now.values }
+    ensures { (file : List ℕ) → HasSpec (Verify file rules.now) (F.state files.old) spec.now →
+        Answered (Some (Verify file rules.now)) (F.state files.old) (F.state files.new) result }
+{
+    match read_second(alloc, files, rules, LONGEST_RULES) {
+        Ok(bytes) => verdicts(alloc, spec, &bytes),
+        Err(stop) => Err(stop),
+    }
+}
+
+fn verify<F: Files>(alloc: Global, files: &mut F, name: &str, rules: &str) -> Result<Answer, Stop>
+    ensures { Answered (Some (Verify name.now rules.now)) (F.state files.old) (F.state files.new) result }
+{
+    match read_first(alloc, files, name) {
+        Ok(spec) => verify_against(alloc, files, &spec, rules),
+        Err(stop) => Err(stop),
+    }
+}
+
+fn usage(alloc: Global) -> Result<Answer, Stop>
+    ensures { (files files_after : FilesState) → Answered None files files_after result }
+{
+    match Vec::from_slice(alloc, b"usage: multlog COMMAND ARGUMENTS\n") {
+        Ok(bytes) => Ok(Answer {
+            status: Status::Usage,
+            bytes,
+        }),
+        Err(_) => Err(Stop::Memory),
+    }
+}
+
+/// The answer to the words.
+pub(crate) fn answer_to<F: Files>(
+    alloc: Global,
+    words: &[String],
+    files: &mut F,
+) -> Result<Answer, Stop>
+    ensures { Answered (command_of (map string_bytes words.now)) (F.state files.old) (F.state files.new) result }
+{
+    match command_of(words) {
+        Some(Command::Calculus(spec)) => calculus(alloc, files, spec),
+        Some(Command::Verify(spec, rules)) => verify(alloc, files, spec, rules),
+        None => usage(alloc),
+    }
+}

@@ -1,0 +1,75 @@
+// The work of each command on a specification's logic, and the step to the types that carry the number of truth values.
+ghost use Rattle.std.specs.Prelude.{◌≡◌, ◌<◌, ◌^◌, length, IfOk};
+ghost use Rattle.lgc_values.specs.Logic.{IsLogic};
+ghost use Rattle.lgc_spec.specs.Logics.{logic_of};
+ghost use Rattle.lgc_top.specs.Calculus.{IsCalculusText};
+ghost use Rattle.lgc_top.specs.Verify.{JudgesBytes};
+
+use lgc_calculus::derive_calculus;
+use lgc_print::calculus_text;
+use lgc_rules::read_rules;
+use lgc_spec::{Spec, matrix_of};
+use lgc_syntax::InputFault;
+use lgc_values::Matrix;
+use lgc_verify::{Judged, judge_rules};
+use std::alloc::{AllocError, Global};
+
+fn calculus<const N: usize>(alloc: Global, spec: &Spec) -> Result<Vec<u8>, AllocError>
+    requires size { length spec.now.values ≡ N }
+    requires logic { IsLogic (logic_of spec.now) }
+    requires designated { spec.now.designated < 2 ^ N }
+    ensures { IfOk result (λ text. IsCalculusText (logic_of spec.now) text.items) }
+{
+    let m: Matrix<N> = matrix_of(alloc, spec)?;
+    let calculus = derive_calculus(alloc, &m)?;
+    calculus_text(alloc, &m, calculus.rules.items())
+}
+
+fn verdicts<const N: usize>(alloc: Global, spec: &Spec, bytes: &[u8]) -> Result<Judged, InputFault>
+    requires size { length spec.now.values ≡ N }
+    requires logic { IsLogic (logic_of spec.now) }
+    requires designated { spec.now.designated < 2 ^ N }
+    ensures { JudgesBytes (logic_of spec.now) bytes.now result }
+{
+    let m: Matrix<N> = matrix_of(alloc, spec)?;
+    match read_rules(alloc, &m, bytes) {
+        Ok(rules) => Ok(judge_rules(alloc, &m, rules.items())?),
+        Err(fault) => Err(fault),
+    }
+}
+
+// A call at the number of truth values that is known when it runs.
+macro_rules! at_size {
+    ($size:expr, $call:ident($($argument:expr),*)) => {
+        match $size {
+            2 => $call::<2>($($argument),*),
+            3 => $call::<3>($($argument),*),
+            4 => $call::<4>($($argument),*),
+            5 => $call::<5>($($argument),*),
+            6 => $call::<6>($($argument),*),
+            7 => $call::<7>($($argument),*),
+            8 => $call::<8>($($argument),*),
+            _ => unreachable!(),
+        }
+    };
+}
+
+/// The text of a calculus of the specification's logic.
+pub(crate) fn calculus_of(alloc: Global, spec: &Spec) -> Result<Vec<u8>, AllocError>
+    requires logic { IsLogic (logic_of spec.now) }
+    requires designated { spec.now.designated < 2 ^ length spec.now.values }
+    ensures { IfOk result (λ text. IsCalculusText (logic_of spec.now) text.items) }
+{
+    let size = spec.values.len();
+    at_size!(size, calculus(alloc, spec))
+}
+
+/// The lines on the rules of a rule file for the specification's logic, and whether all of them are right; or the file's first fault.
+pub(crate) fn verdicts_of(alloc: Global, spec: &Spec, bytes: &[u8]) -> Result<Judged, InputFault>
+    requires logic { IsLogic (logic_of spec.now) }
+    requires designated { spec.now.designated < 2 ^ length spec.now.values }
+    ensures { JudgesBytes (logic_of spec.now) bytes.now result }
+{
+    let size = spec.values.len();
+    at_size!(size, verdicts(alloc, spec, bytes))
+}
