@@ -1,0 +1,188 @@
+-- The classes of printed words: each passes the test that the grammar asks of it. The classes themselves aren't exported, so a
+-- test of one class is that of its place among all.
+use Rattle.std.proofs.Common.{◌≡◌, ℕ, ◌^◌, ◌<◌, ◌≤◌, Bool, true, false, cond, List, [], ◌∷◌, Option, Some, None, refl, ap, ◌∙◌, arith}
+use Rattle.std.specs.Prelude.{codes, ◌&&◌, ◌||◌, ◌==◌, nat_lt}
+use Rattle.std.specs.Char.{is_ascii_lowercase, is_ascii_uppercase}
+use Rattle.std.specs.List.{list_all}
+use Rattle.std.proofs.lemmas.Bool.Decides.{nat_tests}
+use Rattle.lgc_lexer.specs.declared.token.Kind.TheVariants as kind
+use Rattle.lgc_print.specs.Text.{is_word_byte, is_lower_word}
+use Rattle.lgc_rules.specs.Spelled.{Spelled}
+use Rattle.lgc_rules.specs.Numbers.{number_of, number_in}
+use Rattle.lgc_rules.specs.Names.{number, is_outside}
+use Rattle.lgc_rules.specs.Classes.{place, class_in, class_of, class_of_word, class_of_punct, class_of_digits, names, numbers, values, is_name, is_number, is_value}
+use Rattle.lgc_round_trip.proofs.Lexing.{Word, word_of}
+use Rattle.lgc_round_trip.proofs.Pieces.{kind_of, plain, in_quotes, sign, caret}
+use Rattle.lgc_round_trip.proofs.Decimals.{writes_decimal, number_in_decimal}
+use Rattle.lgc_round_trip.proofs.Printing.{value_word, symbol_word, numeral}
+use Rattle.lgc_round_trip.proofs.Texts.{zero_word}
+
+-- the place of the class of a word
+abbrev pub place_of : Word → ℕ
+place_of w = place (class_in w.kind w.text w.before_caret)
+
+place_seen : (t : Spelled) (w : Word) → word_of t ≡ w → place (class_of t) ≡ place_of w
+unfolding class_of
+place_seen t w e = ap place_of e
+
+-- ---- single classes
+
+-- a token of a word of this class
+at_place : (n : ℕ) (w : Word) → (n == place_of w) ≡ true → (t : Spelled) → word_of t ≡ w → (n == place (class_of t)) ≡ true
+at_place n w h t e = ap (λ m. n == m) (place_seen t w e) ∙ h
+
+pub is_rule : (t : Spelled) → word_of t ≡ plain (codes "rule") false → (0 == place (class_of t)) ≡ true
+unfolding class_of_word
+is_rule t e = at_place 0 (plain (codes "rule") false) refl t e
+
+pub is_at : (t : Spelled) → word_of t ≡ plain (codes "at") false → (1 == place (class_of t)) ≡ true
+unfolding class_of_word
+is_at t e = at_place 1 (plain (codes "at") false) refl t e
+
+pub is_operator : (t : Spelled) → word_of t ≡ plain (codes "operator") false → (2 == place (class_of t)) ≡ true
+unfolding class_of_word
+is_operator t e = at_place 2 (plain (codes "operator") false) refl t e
+
+pub is_caret : (t : Spelled) → word_of t ≡ caret → (11 == place (class_of t)) ≡ true
+is_caret t e = at_place 11 caret refl t e
+
+pub is_open_brace : (t : Spelled) → word_of t ≡ sign 123 → (13 == place (class_of t)) ≡ true
+unfolding class_of_punct
+is_open_brace t e = at_place 13 (sign 123) refl t e
+
+pub is_close_brace : (t : Spelled) → word_of t ≡ sign 125 → (14 == place (class_of t)) ≡ true
+unfolding class_of_punct
+is_close_brace t e = at_place 14 (sign 125) refl t e
+
+pub is_open_square : (t : Spelled) → word_of t ≡ sign 91 → (15 == place (class_of t)) ≡ true
+unfolding class_of_punct
+is_open_square t e = at_place 15 (sign 91) refl t e
+
+pub is_close_square : (t : Spelled) → word_of t ≡ sign 93 → (16 == place (class_of t)) ≡ true
+unfolding class_of_punct
+is_close_square t e = at_place 16 (sign 93) refl t e
+
+pub is_comma : (t : Spelled) → word_of t ≡ sign 44 → (17 == place (class_of t)) ≡ true
+unfolding class_of_punct
+is_comma t e = at_place 17 (sign 44) refl t e
+
+pub is_dot : (t : Spelled) → word_of t ≡ sign 46 → (18 == place (class_of t)) ≡ true
+unfolding class_of_punct
+is_dot t e = at_place 18 (sign 46) refl t e
+
+pub is_colon : (t : Spelled) → word_of t ≡ sign 58 → (19 == place (class_of t)) ≡ true
+unfolding class_of_punct
+is_colon t e = at_place 19 (sign 58) refl t e
+
+pub is_semicolon : (t : Spelled) → word_of t ≡ sign 59 → (20 == place (class_of t)) ≡ true
+unfolding class_of_punct
+is_semicolon t e = at_place 20 (sign 59) refl t e
+
+pub is_slash : (t : Spelled) → word_of t ≡ sign 47 → (21 == place (class_of t)) ≡ true
+unfolding class_of_punct
+is_slash t e = at_place 21 (sign 47) refl t e
+
+pub is_zero : (t : Spelled) → word_of t ≡ zero_word → (6 == place (class_of t)) ≡ true
+unfolding number_in
+is_zero t e = at_place 6 zero_word refl t e
+
+-- ---- names
+
+words_are_values : (text : List ℕ) → values (class_of_word text) ≡ true
+unfolding class_of_word
+words_are_values text = grind arith
+
+words_are_names : (text : List ℕ) → names (class_of_word text) ≡ true
+unfolding class_of_word
+words_are_names text = grind arith
+
+number_passes_values : (n : ℕ) (flag : Bool) → values (class_of_digits (Some n) flag) ≡ true
+number_passes_values n flag = grind arith
+
+digits_are_values : (found : Option ℕ) (flag : Bool) → values (class_of_digits found flag) ≡ true
+digits_are_values None flag = refl
+digits_are_values (Some n) flag = number_passes_values n flag
+
+-- a word that begins as a word does is the name of a value
+word_is_value : (l u : Bool) (text : List ℕ) → values (class_in (cond l kind.Lower (cond u kind.Upper kind.Digits)) text false) ≡ true
+word_is_value true u text = words_are_values text
+word_is_value false true text = refl
+word_is_value false false text = digits_are_values (number_in text) false
+
+plain_is_value : (name : List ℕ) → values (class_in (kind_of name) name false) ≡ true
+plain_is_value [] = digits_are_values (number_in []) false
+plain_is_value (b ∷ name) = word_is_value (is_ascii_lowercase b) (is_ascii_uppercase b || b == 95) (b ∷ name)
+
+value_class : (name : List ℕ) (b : Bool) → values (class_in (cond b (plain name false) (in_quotes name)).kind (cond b (plain name false) (in_quotes name)).text (cond b (plain name false) (in_quotes name)).before_caret) ≡ true
+value_class name true = plain_is_value name
+value_class name false = refl
+
+values_seen : (t : Spelled) (w : Word) → word_of t ≡ w → is_value t ≡ values (class_in w.kind w.text w.before_caret)
+unfolding class_of
+values_seen t w e = ap (λ (v : Word). values (class_in v.kind v.text v.before_caret)) e
+
+pub value_passes : (name : List ℕ) (t : Spelled) → word_of t ≡ value_word name → is_value t ≡ true
+value_passes name t e = values_seen t (value_word name) e ∙ value_class name (list_all is_word_byte name)
+
+text_of_either : (name : List ℕ) (b : Bool) → (cond b (plain name false) (in_quotes name)).text ≡ name
+text_of_either name true = refl
+text_of_either name false = refl
+
+pub value_says : (name : List ℕ) (t : Spelled) → word_of t ≡ value_word name → t.text ≡ name
+value_says name t e = ap (λ (w : Word). w.text) e ∙ text_of_either name (list_all is_word_byte name)
+
+lower_is_name : (name : List ℕ) → is_lower_word name ≡ true → names (class_in (kind_of name) name false) ≡ true
+lower_is_name [] h = absurd cc
+lower_is_name (b ∷ name) h = by (is_ascii_lowercase b) h
+  where
+    by : (l : Bool) → (l && list_all is_word_byte name) ≡ true → names (class_in (cond l kind.Lower (cond (is_ascii_uppercase b || b == 95) kind.Upper kind.Digits)) (b ∷ name) false) ≡ true
+    by true h = words_are_names (b ∷ name)
+    by false h = absurd cc
+
+symbol_class : (name : List ℕ) (b : Bool) → is_lower_word name ≡ b → names (class_in (cond b (plain name false) (in_quotes name)).kind (cond b (plain name false) (in_quotes name)).text (cond b (plain name false) (in_quotes name)).before_caret) ≡ true
+symbol_class name true h = lower_is_name name h
+symbol_class name false h = refl
+
+names_seen : (t : Spelled) (w : Word) → word_of t ≡ w → is_name t ≡ names (class_in w.kind w.text w.before_caret)
+unfolding class_of
+names_seen t w e = ap (λ (v : Word). names (class_in v.kind v.text v.before_caret)) e
+
+pub symbol_passes : (name : List ℕ) (t : Spelled) → word_of t ≡ symbol_word name → is_name t ≡ true
+symbol_passes name t e = names_seen t (symbol_word name) e ∙ symbol_class name (is_lower_word name) refl
+
+pub symbol_says : (name : List ℕ) (t : Spelled) → word_of t ≡ symbol_word name → t.text ≡ name
+symbol_says name t e = ap (λ (w : Word). w.text) e ∙ text_of_either name (is_lower_word name)
+
+-- ---- numbers
+
+numbers_seen : (t : Spelled) (w : Word) → word_of t ≡ w → is_number t ≡ numbers (class_in w.kind w.text w.before_caret)
+unfolding class_of
+numbers_seen t w e = ap (λ (v : Word). numbers (class_in v.kind v.text v.before_caret)) e
+
+number_passes_numbers : (n : ℕ) (flag : Bool) → numbers (class_of_digits (Some n) flag) ≡ true
+number_passes_numbers n flag = grind arith
+
+pub numeral_passes : (n : ℕ) (flag : Bool) → n < 2 ^ 32 → (t : Spelled) → word_of t ≡ numeral n flag → is_number t ≡ true
+numeral_passes n flag lt t e =
+    numbers_seen t (numeral n flag) e ∙ ap (λ (found : Option ℕ). numbers (class_of_digits found flag)) (number_in_decimal n lt) ∙ number_passes_numbers n flag
+
+and_none : (b : Bool) → (b && false) ≡ false
+and_none true = refl
+and_none false = refl
+
+argument_place : (n : ℕ) → (7 == place (class_of_digits (Some n) true)) ≡ true
+argument_place n = rw (and_none (n == 0)) refl
+
+-- the number before a caret isn't the clause 0
+pub is_argument : (n : ℕ) → n < 2 ^ 32 → (t : Spelled) → word_of t ≡ numeral n true → (7 == place (class_of t)) ≡ true
+is_argument n lt t e =
+    ap (λ m. 7 == m) (place_seen t (numeral n true) e) ∙ ap (λ (found : Option ℕ). 7 == place (class_of_digits found true)) (number_in_decimal n lt) ∙ argument_place n
+
+pub numeral_says : (n : ℕ) (flag : Bool) → n < 2 ^ 32 → (t : Spelled) → word_of t ≡ numeral n flag → number t ≡ n
+numeral_says n flag lt t e = ap (λ (w : Word). number_of w.text) e ∙ (writes_decimal n (omega arith)).value
+
+within : (m n least most : ℕ) → m ≡ n → least ≤ n → n ≤ most → (nat_lt m least || nat_lt most m) ≡ false
+within m n least most e low high = grind (arith, nat_tests)
+
+pub numeral_within : (n least most : ℕ) (flag : Bool) → n < 2 ^ 32 → least ≤ n → n ≤ most → (t : Spelled) → word_of t ≡ numeral n flag → is_outside least most t ≡ false
+numeral_within n least most flag lt low high t e = within (number t) n least most (numeral_says n flag lt t e) low high

@@ -1,0 +1,12 @@
+pub mod Lexing
+pub mod Pieces
+pub mod Deriving
+pub mod Decimals
+pub mod Printing
+pub mod Texts
+pub mod Classes
+pub mod Lookups
+pub mod SetPhrases
+pub mod ClausePhrases
+pub mod RulePhrases
+pub mod SetLaws
