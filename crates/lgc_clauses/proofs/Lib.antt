@@ -1,2 +1,4 @@
 pub mod Walking
 pub mod Changes
+pub mod Asked
+pub mod Sets

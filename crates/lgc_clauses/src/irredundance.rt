@@ -6,26 +6,29 @@
 // false, and only there the others are asked. A rule without a value is true where the smaller clause is and the rule is.
 // For an exact rule this costs a look at each row for each value, and for each clause a look at each row and at the
 // others where it is false.
-ghost use Rattle.std.specs.Prelude.{◌≡◌, ◌<◌, ◌≤◌, ◌^◌, ◌↔◌, ℕ, length, All, IsTrue, IsNone, IfSome, MatchOption};
+ghost use Rattle.std.specs.Prelude.{◌≡◌, ◌+◌, ◌<◌, ◌≤◌, ◌^◌, ◌↔◌, ℕ, length, All, IsTrue, IsNone, IfSome, MatchOption};
 ghost use Rattle.std.specs.List.{remove};
-ghost use Rattle.lgc_values.specs.Values.{IsSize};
-ghost use Rattle.lgc_values.specs.Logic.{operator_at, row_count};
-ghost use Rattle.lgc_values.specs.declared.TheConstants.{MOST_ROWS, MOST_ARGUMENTS};
-ghost use Rattle.lgc_clauses.specs.Rules.{Fits, clause_holds, all_hold};
-ghost use Rattle.lgc_clauses.specs.Exactness.{AgreesBelow, any_rule, of_operator, RuleFits, IsExactRule, clauses_of, with_clauses};
-ghost use Rattle.lgc_clauses.specs.Irredundance.{sets_without, clauses_without, IsRedundantClause, IsRedundantValue, Never, IsFirst, IsIrredundant, IsFirstOfClause, IsFirstValue, IsFirstDroppable};
+ghost use Rattle.lgc_clauses.specs.Kinds.{plain_rule};
+ghost use Rattle.lgc_clauses.specs.Rules.{rows_of, all_true_at, Fits};
+ghost use Rattle.lgc_clauses.specs.Exactness.{AgreesBelow, IsExact};
+ghost use Rattle.lgc_clauses.specs.Irredundance.{clause_at, clauses_without, with_clauses, part_of, set_asked, IsNumbered, IsRedundantClause, IsRedundantValue, Never, IsFirst, IsIrredundant, IsFirstOfClause, IsFirstValue, IsFirstDroppable};
 
-use crate::clause::{clauses_hold, sets_hold};
-use crate::exactness::first_difference;
-use crate::rule::{arity_of, rows_of};
-use crate::{Clause, OpRule, Rule};
-use lgc_values::{Matrix, ValueSet, argument_at};
+use crate::Rule;
+use crate::exactness::{clauses_hold, rule_exact};
+use crate::table::{
+    clause_count, clause_holds, clause_holds_without, is_inside, rows_of, set_count, set_of,
+};
+use lgc_values::Matrix;
 
 /// A part of a clause.
 #[derive(Clone, Copy, Debug, PartialEq, Eq)]
 pub enum Part {
-    /// The set of an argument, counted from 1.
+    /// The set of an argument of an operator, counted from 1.
     Argument(u32),
+    /// An `all` set of a quantifier's clause, counted from 1.
+    All(u32),
+    /// The `some` set of a quantifier's clause.
+    Some,
 }
 
 /// What can be taken from a rule that is exact without it.
@@ -41,42 +44,44 @@ pub enum Droppable {
 /// of any one set of a clause.
 ///
 /// `None` says that it is. Else the answer is the first clause that can be taken away with the rest exact. Where no clause
-/// can be, it is the first value, by clause, then by argument, then by value.
+/// can be, it is the first value, by clause, then by part, then by value. The parts of an operator's clause are its arguments
+/// in order; those of a quantifier's clause are its `all` sets in order, and then its `some` set.
 pub fn rule_irredundant<const N: usize>(m: &Matrix<N>, rule: &Rule<N>) -> Option<Droppable>
-    requires fits { RuleFits m.now (any_rule rule.now) }
-    requires few { length (clauses_of (any_rule rule.now)) < 2 ^ 32 }
-    ensures { MatchOption result (IsIrredundant m.now (any_rule rule.now)) (IsFirstDroppable m.now (any_rule rule.now)) }
+    requires fits { Fits m.now (plain_rule rule.now) }
+    requires few { IsNumbered (plain_rule rule.now) }
+    ensures { MatchOption result (IsIrredundant m.now (plain_rule rule.now)) (IsFirstDroppable m.now (plain_rule rule.now)) }
 {
-    match rule {
-        Rule::Operator(rule) => first_droppable(m, rule),
-    }
-}
-
-// The first part that can be taken away.
-fn first_droppable<const N: usize>(m: &Matrix<N>, rule: &OpRule<N>) -> Option<Droppable>
-    requires fits { Fits m.now rule.now }
-    requires few { length rule.now.clauses < 2 ^ 32 }
-    ensures { MatchOption result (IsIrredundant m.now (of_operator rule.now)) (IsFirstDroppable m.now (of_operator rule.now)) }
-{
-    let agreed = first_difference(m, rule).unwrap_or(rows_of(m, rule.op));
+    let agreed = rule_exact(m, rule).unwrap_or(rows_of(m, rule));
     if let Some(i) = first_clause(m, rule, agreed) {
         return Some(Droppable::Clause(i as u32 + 1));
     }
     let (i, j, value) = first_value(m, rule, agreed)?;
     Some(Droppable::Value {
         clause: i as u32 + 1,
-        part: Part::Argument(j as u32 + 1),
+        part: part_of(rule, j as u32),
         value,
     })
 }
 
-// The first clause, counted from 0, that can be taken away.
-fn first_clause<const N: usize>(m: &Matrix<N>, rule: &OpRule<N>, agreed: u32) -> Option<usize>
-    requires fits { Fits m.now rule.now }
-    requires agreed { AgreesBelow m.now (of_operator rule.now) agreed }
-    ensures { MatchOption result (Never (IsRedundantClause m.now (of_operator rule.now))) (IsFirst (IsRedundantClause m.now (of_operator rule.now))) }
+// What set `j` of a clause, counted from 0, is.
+fn part_of<const N: usize>(rule: &Rule<N>, j: u32) -> Part
+    requires { j + 1 < 2 ^ 32 }
+    ensures { result ≡ part_of (plain_rule rule.now).head j }
 {
-    for i in 0..rule.clauses.len() {
+    match (rule, j) {
+        (Rule::Operator(_), _) => Part::Argument(j + 1),
+        (Rule::Quantifier(_), 0) => Part::Some,
+        (Rule::Quantifier(_), _) => Part::All(j),
+    }
+}
+
+// The first clause, counted from 0, that can be taken away.
+fn first_clause<const N: usize>(m: &Matrix<N>, rule: &Rule<N>, agreed: u32) -> Option<usize>
+    requires fits { Fits m.now (plain_rule rule.now) }
+    requires agreed { AgreesBelow m.now (plain_rule rule.now) agreed }
+    ensures { MatchOption result (Never (IsRedundantClause m.now (plain_rule rule.now))) (IsFirst (IsRedundantClause m.now (plain_rule rule.now))) }
+{
+    for i in 0..clause_count(rule) {
         if exact_without_clause(m, rule, agreed, i) {
             return Some(i);
         }
@@ -87,17 +92,17 @@ fn first_clause<const N: usize>(m: &Matrix<N>, rule: &OpRule<N>, agreed: u32) ->
 // The first value that can be taken away, after the numbers of its clause and of its set. All are counted from 0.
 fn first_value<const N: usize>(
     m: &Matrix<N>,
-    rule: &OpRule<N>,
+    rule: &Rule<N>,
     agreed: u32,
 ) -> Option<(usize, usize, u8)>
-    requires fits { Fits m.now rule.now }
-    requires agreed { AgreesBelow m.now (of_operator rule.now) agreed }
-    ensures clause { IfSome result (λ found. found.0 < length rule.now.clauses) }
-    ensures part { IfSome result (λ found. found.1 < MOST_ARGUMENTS) }
-    ensures none { IsNone result → (i j : ℕ) → Never (IsRedundantValue m.now (of_operator rule.now) i j) }
-    ensures some { IfSome result (λ found. IsFirstValue m.now (of_operator rule.now) found.0 found.1 found.2) }
+    requires fits { Fits m.now (plain_rule rule.now) }
+    requires agreed { AgreesBelow m.now (plain_rule rule.now) agreed }
+    ensures clause { IfSome result (λ found. found.0 < length (plain_rule rule.now).clauses) }
+    ensures part { IfSome result (λ found. found.1 < length (clause_at (plain_rule rule.now).clauses found.0)) }
+    ensures none { IsNone result → (i j : ℕ) → Never (IsRedundantValue m.now (plain_rule rule.now) i j) }
+    ensures some { IfSome result (λ found. IsFirstValue m.now (plain_rule rule.now) found.0 found.1 found.2) }
 {
-    for i in 0..rule.clauses.len() {
+    for i in 0..clause_count(rule) {
         if let Some((j, v)) = first_value_of_clause(m, rule, agreed, i) {
             return Some((i, j, v));
         }
@@ -108,18 +113,20 @@ fn first_value<const N: usize>(
 // The first value of clause `i` that can be taken away, after the number of its set. Both are counted from 0.
 fn first_value_of_clause<const N: usize>(
     m: &Matrix<N>,
-    rule: &OpRule<N>,
+    rule: &Rule<N>,
     agreed: u32,
     i: usize,
 ) -> Option<(usize, u8)>
-    requires fits { Fits m.now rule.now }
-    requires agreed { AgreesBelow m.now (of_operator rule.now) agreed }
-    requires clause { i < length rule.now.clauses }
-    ensures part { IfSome result (λ found. found.0 < MOST_ARGUMENTS) }
-    ensures none { IsNone result → (j : ℕ) → Never (IsRedundantValue m.now (of_operator rule.now) i j) }
-    ensures some { IfSome result (λ found. IsFirstOfClause m.now (of_operator rule.now) i found.0 found.1) }
+    requires fits { Fits m.now (plain_rule rule.now) }
+    requires agreed { AgreesBelow m.now (plain_rule rule.now) agreed }
+    requires clause { i < length (plain_rule rule.now).clauses }
+    ensures part { IfSome result (λ found. found.0 < length (clause_at (plain_rule rule.now).clauses i)) }
+    ensures none { IsNone result → (j : ℕ) → Never (IsRedundantValue m.now (plain_rule rule.now) i j) }
+    ensures some { IfSome result (λ found. IsFirstOfClause m.now (plain_rule rule.now) i found.0 found.1) }
 {
-    for j in 0..arity_of(m, rule.op) as usize {
+    let count = set_count(rule, i);
+    for place in 0..count {
+        let j = set_asked(rule, count, place);
         if let Some(v) = first_value_of_set(m, rule, agreed, i, j) {
             return Some((j, v));
         }
@@ -127,22 +134,33 @@ fn first_value_of_clause<const N: usize>(
     None
 }
 
+// The number of the set of a clause that is asked at a place, where the clause has `count` sets.
+fn set_asked<const N: usize>(rule: &Rule<N>, count: usize, place: usize) -> usize
+    requires { place < count }
+    ensures within { result < count }
+    ensures asked { result ≡ set_asked (plain_rule rule.now).head count place }
+{
+    match rule {
+        Rule::Operator(_) => place,
+        Rule::Quantifier(_) => (place + 1) % count,
+    }
+}
+
 // The first value of set `j` of clause `i` that can be taken away.
 fn first_value_of_set<const N: usize>(
     m: &Matrix<N>,
-    rule: &OpRule<N>,
+    rule: &Rule<N>,
     agreed: u32,
     i: usize,
     j: usize,
 ) -> Option<u8>
-    requires fits { Fits m.now rule.now }
-    requires agreed { AgreesBelow m.now (of_operator rule.now) agreed }
-    requires clause { i < length rule.now.clauses }
-    requires part { j < (operator_at m.now rule.now.op).arity }
-    ensures { MatchOption result (Never (IsRedundantValue m.now (of_operator rule.now) i j)) (IsFirst (IsRedundantValue m.now (of_operator rule.now) i j)) }
+    requires fits { Fits m.now (plain_rule rule.now) }
+    requires agreed { AgreesBelow m.now (plain_rule rule.now) agreed }
+    requires clause { i < length (plain_rule rule.now).clauses }
+    requires part { j < length (clause_at (plain_rule rule.now).clauses i) }
+    ensures { MatchOption result (Never (IsRedundantValue m.now (plain_rule rule.now) i j)) (IsFirst (IsRedundantValue m.now (plain_rule rule.now) i j)) }
 {
-    let clause = rule.clauses.get(i);
-    let set = *clause.sets.get(j);
+    let set = set_of(rule, i, j);
     let _mask = set.mask();
     for v in 0..N as u8 {
         if set.contains(v) && exact_without_value(m, rule, agreed, i, j, v) {
@@ -155,19 +173,17 @@ fn first_value_of_set<const N: usize>(
 // Whether the rule is exact without clause `i`.
 fn exact_without_clause<const N: usize>(
     m: &Matrix<N>,
-    rule: &OpRule<N>,
+    rule: &Rule<N>,
     agreed: u32,
     i: usize,
 ) -> bool
-    requires fits { Fits m.now rule.now }
-    requires agreed { AgreesBelow m.now (of_operator rule.now) agreed }
-    requires clause { i < length rule.now.clauses }
-    ensures { IsTrue result ↔ IsExactRule m.now (with_clauses (of_operator rule.now) (remove rule.now.clauses i)) }
+    requires fits { Fits m.now (plain_rule rule.now) }
+    requires agreed { AgreesBelow m.now (plain_rule rule.now) agreed }
+    requires clause { i < length (plain_rule rule.now).clauses }
+    ensures { IsTrue result ↔ IsExact m.now (with_clauses (plain_rule rule.now) (remove (plain_rule rule.now).clauses i)) }
 {
-    for row in 0..rows_of(m, rule.op) {
-        if hold_without_clause(m, rule, agreed, i, row)
-            != rule.sign.contains(m.apply(rule.op, row))
-        {
+    for row in 0..rows_of(m, rule) {
+        if hold_without_clause(m, rule, agreed, i, row) != is_inside(m, rule, row) {
             return false;
         }
     }
@@ -177,23 +193,21 @@ fn exact_without_clause<const N: usize>(
 // Whether the rule is exact without value `v` of set `j` of clause `i`.
 fn exact_without_value<const N: usize>(
     m: &Matrix<N>,
-    rule: &OpRule<N>,
+    rule: &Rule<N>,
     agreed: u32,
     i: usize,
     j: usize,
     v: u8,
 ) -> bool
-    requires fits { Fits m.now rule.now }
-    requires agreed { AgreesBelow m.now (of_operator rule.now) agreed }
-    requires clause { i < length rule.now.clauses }
-    requires part { j < (operator_at m.now rule.now.op).arity }
+    requires fits { Fits m.now (plain_rule rule.now) }
+    requires agreed { AgreesBelow m.now (plain_rule rule.now) agreed }
+    requires clause { i < length (plain_rule rule.now).clauses }
+    requires part { j < length (clause_at (plain_rule rule.now).clauses i) }
     requires value { v < N }
-    ensures { IsTrue result ↔ IsExactRule m.now (with_clauses (of_operator rule.now) (clauses_without rule.now.clauses i j v)) }
+    ensures { IsTrue result ↔ IsExact m.now (with_clauses (plain_rule rule.now) (clauses_without (plain_rule rule.now).clauses i j v)) }
 {
-    for row in 0..rows_of(m, rule.op) {
-        if hold_without_value(m, rule, agreed, i, j, v, row)
-            != rule.sign.contains(m.apply(rule.op, row))
-        {
+    for row in 0..rows_of(m, rule) {
+        if hold_without_value(m, rule, agreed, i, j, v, row) != is_inside(m, rule, row) {
             return false;
         }
     }
@@ -204,24 +218,21 @@ fn exact_without_value<const N: usize>(
 #[tactic(auto, using(crate::proofs::Changes::others_with))]
 fn hold_without_clause<const N: usize>(
     m: &Matrix<N>,
-    rule: &OpRule<N>,
+    rule: &Rule<N>,
     agreed: u32,
     i: usize,
     row: u32,
 ) -> bool
-    requires fits { Fits m.now rule.now }
-    requires agreed { AgreesBelow m.now (of_operator rule.now) agreed }
-    requires clause { i < length rule.now.clauses }
-    requires row { row < row_count m.now rule.now.op }
-    ensures { result ≡ all_hold N (remove rule.now.clauses i) row }
+    requires fits { Fits m.now (plain_rule rule.now) }
+    requires agreed { AgreesBelow m.now (plain_rule rule.now) agreed }
+    requires clause { i < length (plain_rule rule.now).clauses }
+    requires row { row < rows_of m.now (plain_rule rule.now).head }
+    ensures { result ≡ all_true_at m.now (plain_rule rule.now).head (remove (plain_rule rule.now).clauses i) row }
 {
-    let arity = arity_of(m, rule.op);
-    let clauses = rule.clauses.items();
-    let clause = &clauses[i];
-    if sets_hold(clause.sets.items(), row) {
-        all_true_at(m, rule, agreed, row)
+    if clause_holds(m, rule, i, row) {
+        all_hold(m, rule, agreed, row)
     } else {
-        others_hold(clauses, i, arity, row)
+        others_hold(m, rule, i, row)
     }
 }
 
@@ -229,69 +240,49 @@ fn hold_without_clause<const N: usize>(
 #[tactic(auto, using(crate::proofs::Changes::less_where))]
 fn hold_without_value<const N: usize>(
     m: &Matrix<N>,
-    rule: &OpRule<N>,
+    rule: &Rule<N>,
     agreed: u32,
     i: usize,
     j: usize,
     v: u8,
     row: u32,
 ) -> bool
-    requires fits { Fits m.now rule.now }
-    requires agreed { AgreesBelow m.now (of_operator rule.now) agreed }
-    requires clause { i < length rule.now.clauses }
-    requires part { j < (operator_at m.now rule.now.op).arity }
+    requires fits { Fits m.now (plain_rule rule.now) }
+    requires agreed { AgreesBelow m.now (plain_rule rule.now) agreed }
+    requires clause { i < length (plain_rule rule.now).clauses }
+    requires part { j < length (clause_at (plain_rule rule.now).clauses i) }
     requires value { v < N }
-    requires row { row < row_count m.now rule.now.op }
-    ensures { result ≡ all_hold N (clauses_without rule.now.clauses i j v) row }
+    requires row { row < rows_of m.now (plain_rule rule.now).head }
+    ensures { result ≡ all_true_at m.now (plain_rule rule.now).head (clauses_without (plain_rule rule.now).clauses i j v) row }
 {
-    let _arity = arity_of(m, rule.op);
-    let clause = &rule.clauses.items()[i];
-    sets_hold_without(clause.sets.items(), j, v, row) && all_true_at(m, rule, agreed, row)
+    clause_holds_without(m, rule, i, j, v, row) && all_hold(m, rule, agreed, row)
 }
 
 // Whether every clause is true at the row with the index `row`. Below `agreed` the table tells it.
-fn all_true_at<const N: usize>(m: &Matrix<N>, rule: &OpRule<N>, agreed: u32, row: u32) -> bool
-    requires fits { Fits m.now rule.now }
-    requires agreed { AgreesBelow m.now (of_operator rule.now) agreed }
-    requires row { row < row_count m.now rule.now.op }
-    ensures { result ≡ all_hold N rule.now.clauses row }
+fn all_hold<const N: usize>(m: &Matrix<N>, rule: &Rule<N>, agreed: u32, row: u32) -> bool
+    requires fits { Fits m.now (plain_rule rule.now) }
+    requires agreed { AgreesBelow m.now (plain_rule rule.now) agreed }
+    requires row { row < rows_of m.now (plain_rule rule.now).head }
+    ensures { result ≡ all_true_at m.now (plain_rule rule.now).head (plain_rule rule.now).clauses row }
 {
-    let arity = arity_of(m, rule.op);
     if row < agreed {
-        rule.sign.contains(m.apply(rule.op, row))
+        is_inside(m, rule, row)
     } else {
-        clauses_hold(rule.clauses.items(), arity, row)
+        clauses_hold(m, rule, row)
     }
 }
 
 // Whether every clause but clause `i` is true at the row with the index `row`.
-#[tactic(auto, using(crate::proofs::Changes::others_apart))]
-fn others_hold<const N: usize>(clauses: &[Clause<N>], i: usize, arity: u32, row: u32) -> bool
-    requires size { IsSize N }
-    requires rows { N ^ arity ≤ MOST_ROWS }
-    requires few { arity ≤ MOST_ARGUMENTS }
-    requires width { All (λ sets. length sets ≡ arity) clauses.now }
-    requires clause { i < length clauses.now }
-    ensures { result ≡ all_hold N (remove clauses.now i) row }
+fn others_hold<const N: usize>(m: &Matrix<N>, rule: &Rule<N>, i: usize, row: u32) -> bool
+    requires fits { Fits m.now (plain_rule rule.now) }
+    requires clause { i < length (plain_rule rule.now).clauses }
+    requires row { row < rows_of m.now (plain_rule rule.now).head }
+    ensures { result ≡ all_true_at m.now (plain_rule rule.now).head (remove (plain_rule rule.now).clauses i) row }
 {
-    clauses_hold(&clauses[..i], arity, row) && clauses_hold(&clauses[i + 1..], arity, row)
-}
-
-// Whether a clause is true at the row with the index `row` without value `v` of set `i`.
-#[tactic(auto, using(crate::proofs::Changes::without_step, crate::proofs::Changes::without_none, std::proofs::lemmas::Grind::common_steps))]
-fn sets_hold_without<const N: usize>(sets: &[ValueSet<N>], i: usize, v: u8, row: u32) -> bool
-    requires size { IsSize N }
-    requires rows { N ^ length sets.now ≤ MOST_ROWS }
-    requires few { length sets.now ≤ MOST_ARGUMENTS }
-    requires part { i < length sets.now }
-    requires value { v < N }
-    ensures { result ≡ clause_holds N (sets_without sets.now i v) row }
-{
-    for (j, set) in sets.iter().enumerate() {
-        let argument = argument_at(N as u32, sets.len() as u32, row, j as u32);
-        if set.contains(argument) && (j != i || argument != v) {
-            return true;
+    for k in 0..clause_count(rule) {
+        if k != i && !clause_holds(m, rule, k, row) {
+            return false;
         }
     }
-    false
+    true
 }

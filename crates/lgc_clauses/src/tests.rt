@@ -1,10 +1,15 @@
-// The truth of two clauses at each row, and what is said of some rules, worked out by hand.
-ghost use Rattle.std.specs.Prelude.{◌≡◌, IfOk, [], ◌∷◌, ◌<◌, ◌^◌, All, codes, length};
+// The truth of some clauses at each row, and what is said of some rules, worked out by hand.
+ghost use Rattle.std.specs.Prelude.{◌≡◌, ◌≢◌, IfOk, [], ◌∷◌, ◌<◌, ◌^◌, All, codes, drop, length};
 ghost use Rattle.lgc_values.specs.Logic.{operator_at};
-ghost use Rattle.lgc_clauses.specs.Exactness.{any_rule, clauses_of, RuleFits};
+ghost use Rattle.lgc_clauses.specs.Kinds.{plain_rule};
+ghost use Rattle.lgc_clauses.specs.Rules.{Fits, IsClauseOf, quantifier};
+ghost use Rattle.lgc_clauses.specs.Irredundance.{IsNumbered};
 
-use crate::{Clause, Droppable, OpRule, Part, Rule, clause_true_at, rule_exact, rule_irredundant};
-use lgc_values::{List, Matrix, Name, Operator, ValueSet};
+use crate::{
+    Clause, Droppable, OpRule, Part, QClause, QRule, Rule, clause_true_at, qclause_true_at,
+    rule_exact, rule_irredundant,
+};
+use lgc_values::{List, Matrix, Name, Operator, Quantifier, ValueSet};
 use std::alloc::{AllocError, Global};
 use std::test::Fail;
 
@@ -72,9 +77,11 @@ fn clause_of(
 fn rule_at_false(m: &Matrix<3>, op: u16, clauses: Vec<Clause<3>>) -> Rule<3>
     requires operator { op < length m.now.operators }
     requires width { All (λ sets. length sets ≡ (operator_at m.now op).arity) clauses.items }
-    ensures fits { RuleFits m.now (any_rule result) }
-    ensures clauses { clauses_of (any_rule result) ≡ clauses.items }
+    requires few { length clauses.items < 2 ^ 32 }
+    ensures fits { Fits m.now (plain_rule result) }
+    ensures numbered { IsNumbered (plain_rule result) }
 {
+    let _operators = m.operators();
     Rule::Operator(OpRule {
         op,
         sign: ValueSet::single(0),
@@ -86,8 +93,8 @@ fn rule_at_false(m: &Matrix<3>, op: u16, clauses: Vec<Clause<3>>) -> Rule<3>
 fn apart(alloc: Global, m: &Matrix<3>) -> Result<Rule<3>, AllocError>
     requires operator { 0 < length m.now.operators }
     requires arity { (operator_at m.now 0).arity ≡ 2 }
-    ensures fits { IfOk result (λ rule. RuleFits m.now (any_rule rule)) }
-    ensures few { IfOk result (λ rule. length (clauses_of (any_rule rule)) < 2 ^ 32) }
+    ensures fits { IfOk result (λ rule. Fits m.now (plain_rule rule)) }
+    ensures numbered { IfOk result (λ rule. IsNumbered (plain_rule rule)) }
 {
     let second = clause_of(alloc, ValueSet::empty(), ValueSet::single(0))?;
     let first = clause_of(alloc, ValueSet::single(2), ValueSet::empty())?;
@@ -98,8 +105,8 @@ fn apart(alloc: Global, m: &Matrix<3>) -> Result<Rule<3>, AllocError>
 fn doubled(alloc: Global, m: &Matrix<3>) -> Result<Rule<3>, AllocError>
     requires operator { 0 < length m.now.operators }
     requires arity { (operator_at m.now 0).arity ≡ 2 }
-    ensures fits { IfOk result (λ rule. RuleFits m.now (any_rule rule)) }
-    ensures few { IfOk result (λ rule. length (clauses_of (any_rule rule)) < 2 ^ 32) }
+    ensures fits { IfOk result (λ rule. Fits m.now (plain_rule rule)) }
+    ensures numbered { IfOk result (λ rule. IsNumbered (plain_rule rule)) }
 {
     let second = clause_of(alloc, ValueSet::empty(), ValueSet::single(0))?;
     let first = clause_of(alloc, ValueSet::single(2), ValueSet::empty())?;
@@ -111,8 +118,8 @@ fn doubled(alloc: Global, m: &Matrix<3>) -> Result<Rule<3>, AllocError>
 fn joined(alloc: Global, m: &Matrix<3>) -> Result<Rule<3>, AllocError>
     requires operator { 0 < length m.now.operators }
     requires arity { (operator_at m.now 0).arity ≡ 2 }
-    ensures fits { IfOk result (λ rule. RuleFits m.now (any_rule rule)) }
-    ensures few { IfOk result (λ rule. length (clauses_of (any_rule rule)) < 2 ^ 32) }
+    ensures fits { IfOk result (λ rule. Fits m.now (plain_rule rule)) }
+    ensures numbered { IfOk result (λ rule. IsNumbered (plain_rule rule)) }
 {
     let first = clause_of(alloc, ValueSet::single(2), ValueSet::empty())?;
     let either = clause_of(alloc, ValueSet::single(0), ValueSet::single(0))?;
@@ -123,8 +130,8 @@ fn joined(alloc: Global, m: &Matrix<3>) -> Result<Rule<3>, AllocError>
 fn widened(alloc: Global, m: &Matrix<3>) -> Result<Rule<3>, AllocError>
     requires operator { 1 < length m.now.operators }
     requires arity { (operator_at m.now 1).arity ≡ 1 }
-    ensures fits { IfOk result (λ rule. RuleFits m.now (any_rule rule)) }
-    ensures few { IfOk result (λ rule. length (clauses_of (any_rule rule)) < 2 ^ 32) }
+    ensures fits { IfOk result (λ rule. Fits m.now (plain_rule rule)) }
+    ensures numbered { IfOk result (λ rule. IsNumbered (plain_rule rule)) }
 {
     let sets = List::of_vec(vec![in alloc; ValueSet::single(1).with(2)]?);
     Ok(rule_at_false(m, 1, vec![in alloc; Clause { sets }]?))
@@ -212,5 +219,262 @@ fn not_exact(rt: HostRuntime) -> Result<(), Fail> {
         value: 1,
     };
     assert_eq!(rt; rule_irredundant(&matrix, &rule), Some(found));
+    Ok(())
+}
+
+// The values f, u and t with a quantifier: the minimum.
+fn minimum(alloc: Global) -> Result<Matrix<3>, AllocError>
+    ensures { IfOk result (λ logic. length logic.quantifiers ≡ 1) }
+{
+    let names = value_names(alloc)?;
+    let forall = Quantifier {
+        name: name_of(alloc, b"forall")?,
+        table: List::of_vec(vec![in alloc; 0, 1, 0, 2, 0, 1, 0]?),
+    };
+    let quantifiers = List::of_vec(vec![in alloc; forall]?);
+    Ok(Matrix::new(names, ValueSet::single(2), List::new(alloc), quantifiers))
+}
+
+fn four_names(alloc: Global) -> Result<List<Name>, AllocError>
+    ensures { IfOk result (λ names. names ≡ codes "f" ∷ codes "n" ∷ codes "b" ∷ codes "t" ∷ []) }
+{
+    let names = vec![in alloc;
+        name_of(alloc, b"f")?,
+        name_of(alloc, b"n")?,
+        name_of(alloc, b"b")?,
+        name_of(alloc, b"t")?,
+    ]?;
+    Ok(List::of_vec(names))
+}
+
+// The values f, n, b and t, with n and b between f and t and neither above the other, and a quantifier: the infimum.
+fn infimum(alloc: Global) -> Result<Matrix<4>, AllocError>
+    ensures { IfOk result (λ logic. length logic.quantifiers ≡ 1) }
+{
+    let names = four_names(alloc)?;
+    let inf = Quantifier {
+        name: name_of(alloc, b"inf")?,
+        table: List::of_vec(vec![in alloc; 0, 1, 0, 2, 0, 0, 0, 3, 0, 1, 0, 2, 0, 0, 0]?),
+    };
+    let quantifiers = List::of_vec(vec![in alloc; inf]?);
+    Ok(Matrix::new(names, ValueSet::single(3), List::new(alloc), quantifiers))
+}
+
+fn over<const N: usize>(all: Vec<ValueSet<N>>, some: ValueSet<N>) -> QClause<N>
+    requires nonempty { All (λ set. set ≢ []) all.items }
+    requires few { length all.items < 1000 }
+    ensures formed { (0 < length result) × All (λ set. set ≢ []) (drop 1 result) }
+    ensures numbered { length result < 2 ^ 32 }
+{
+    QClause {
+        all: List::of_vec(all),
+        some,
+    }
+}
+
+// The rule for the quantifier at a sign.
+fn rule_over<const N: usize>(m: &Matrix<N>, sign: ValueSet<N>, clauses: Vec<QClause<N>>) -> Rule<N>
+    requires quantifier { 0 < length m.now.quantifiers }
+    requires formed { All (IsClauseOf m.now (quantifier 0)) clauses.items }
+    requires few { length clauses.items < 2 ^ 32 }
+    requires numbered { All (λ sets. length sets < 2 ^ 32) clauses.items }
+    ensures fits { Fits m.now (plain_rule result) }
+    ensures numbered { IsNumbered (plain_rule result) }
+{
+    Rule::Quantifier(QRule {
+        quant: 0,
+        sign,
+        clauses: List::of_vec(clauses),
+    })
+}
+
+// All values are u, or all are t. And all are t, or some are f.
+#[test]
+fn clauses_at_sets(rt: HostRuntime) -> Result<(), Fail> {
+    let alike = over(
+        vec![in rt.alloc(); ValueSet::<3>::single(1), ValueSet::single(2)]?,
+        ValueSet::empty(),
+    );
+    let extreme = over(
+        vec![in rt.alloc(); ValueSet::<3>::single(2)]?,
+        ValueSet::single(0),
+    );
+    for (mask, first, second) in [
+        (1, false, true),
+        (2, true, false),
+        (3, false, true),
+        (4, true, true),
+        (5, false, true),
+        (6, false, false),
+        (7, false, true),
+    ] {
+        assert!(rt; mask < 8);
+        let set = ValueSet::of_mask(mask);
+        assert_eq!(rt; qclause_true_at(&alike, set), first, "at mask {mask}");
+        assert_eq!(rt; qclause_true_at(&extreme, set), second, "at mask {mask}");
+    }
+    Ok(())
+}
+
+// The minimum is f where some value is f, u where all are u or t and some are u, and t where all are t.
+fn at_false(alloc: Global, m: &Matrix<3>) -> Result<Rule<3>, AllocError>
+    requires { 0 < length m.now.quantifiers }
+    ensures fits { IfOk result (λ rule. Fits m.now (plain_rule rule)) }
+    ensures numbered { IfOk result (λ rule. IsNumbered (plain_rule rule)) }
+{
+    let some = over(Vec::new(alloc), ValueSet::single(0));
+    Ok(rule_over(m, ValueSet::single(0), vec![in alloc; some]?))
+}
+
+fn at_middle(alloc: Global, m: &Matrix<3>) -> Result<Rule<3>, AllocError>
+    requires { 0 < length m.now.quantifiers }
+    ensures fits { IfOk result (λ rule. Fits m.now (plain_rule rule)) }
+    ensures numbered { IfOk result (λ rule. IsNumbered (plain_rule rule)) }
+{
+    let all = over(
+        vec![in alloc; ValueSet::single(1).with(2)]?,
+        ValueSet::empty(),
+    );
+    let some = over(Vec::new(alloc), ValueSet::single(1));
+    Ok(rule_over(m, ValueSet::single(1), vec![in alloc; all, some]?))
+}
+
+fn at_true(alloc: Global, m: &Matrix<3>) -> Result<Rule<3>, AllocError>
+    requires { 0 < length m.now.quantifiers }
+    ensures fits { IfOk result (λ rule. Fits m.now (plain_rule rule)) }
+    ensures numbered { IfOk result (λ rule. IsNumbered (plain_rule rule)) }
+{
+    let all = over(vec![in alloc; ValueSet::single(2)]?, ValueSet::empty());
+    Ok(rule_over(m, ValueSet::single(2), vec![in alloc; all]?))
+}
+
+// The rule at u, and some value is u or t.
+fn at_middle_and_more(alloc: Global, m: &Matrix<3>) -> Result<Rule<3>, AllocError>
+    requires { 0 < length m.now.quantifiers }
+    ensures fits { IfOk result (λ rule. Fits m.now (plain_rule rule)) }
+    ensures numbered { IfOk result (λ rule. IsNumbered (plain_rule rule)) }
+{
+    let all = over(
+        vec![in alloc; ValueSet::single(1).with(2)]?,
+        ValueSet::empty(),
+    );
+    let some = over(Vec::new(alloc), ValueSet::single(1));
+    let more = over(Vec::new(alloc), ValueSet::single(1).with(2));
+    Ok(rule_over(m, ValueSet::single(1), vec![in alloc; all, some, more]?))
+}
+
+// All values are u or t, or all are t.
+fn above_false(alloc: Global, m: &Matrix<3>) -> Result<Rule<3>, AllocError>
+    requires { 0 < length m.now.quantifiers }
+    ensures fits { IfOk result (λ rule. Fits m.now (plain_rule rule)) }
+    ensures numbered { IfOk result (λ rule. IsNumbered (plain_rule rule)) }
+{
+    let all = over(
+        vec![in alloc; ValueSet::single(1).with(2), ValueSet::single(2)]?,
+        ValueSet::empty(),
+    );
+    let sign = ValueSet::single(1).with(2);
+    Ok(rule_over(m, sign, vec![in alloc; all]?))
+}
+
+// All values are u or t. And some are f or u, or, where it is asked for, all are f.
+fn at_middle_widened(alloc: Global, m: &Matrix<3>, all_false: bool) -> Result<Rule<3>, AllocError>
+    requires { 0 < length m.now.quantifiers }
+    ensures fits { IfOk result (λ rule. Fits m.now (plain_rule rule)) }
+    ensures numbered { IfOk result (λ rule. IsNumbered (plain_rule rule)) }
+{
+    let all = over(
+        vec![in alloc; ValueSet::single(1).with(2)]?,
+        ValueSet::empty(),
+    );
+    let sets = if all_false {
+        vec![in alloc; ValueSet::single(0)]?
+    } else {
+        Vec::new(alloc)
+    };
+    let some = over(sets, ValueSet::single(0).with(1));
+    Ok(rule_over(m, ValueSet::single(1), vec![in alloc; all, some]?))
+}
+
+#[test]
+fn exact_and_irredundant_over_sets(rt: HostRuntime) -> Result<(), Fail> {
+    let matrix = minimum(rt.alloc())?;
+    let lowest = at_false(rt.alloc(), &matrix)?;
+    assert_eq!(rt; rule_exact(&matrix, &lowest), None);
+    assert_eq!(rt; rule_irredundant(&matrix, &lowest), None);
+    let middle = at_middle(rt.alloc(), &matrix)?;
+    assert_eq!(rt; rule_exact(&matrix, &middle), None);
+    assert_eq!(rt; rule_irredundant(&matrix, &middle), None);
+    Ok(())
+}
+
+#[test]
+fn exact_and_irredundant_over_one_value(rt: HostRuntime) -> Result<(), Fail> {
+    let matrix = minimum(rt.alloc())?;
+    let highest = at_true(rt.alloc(), &matrix)?;
+    assert_eq!(rt; rule_exact(&matrix, &highest), None);
+    assert_eq!(rt; rule_irredundant(&matrix, &highest), None);
+    Ok(())
+}
+
+#[test]
+fn quantifier_with_a_clause_too_many(rt: HostRuntime) -> Result<(), Fail> {
+    let matrix = minimum(rt.alloc())?;
+    let rule = at_middle_and_more(rt.alloc(), &matrix)?;
+    assert_eq!(rt; rule_exact(&matrix, &rule), None);
+    assert_eq!(rt;
+        rule_irredundant(&matrix, &rule),
+        Some(Droppable::Clause(3))
+    );
+    Ok(())
+}
+
+// The value t of the second set lets nothing more be true: it is in the first.
+#[test]
+fn quantifier_with_a_value_too_many(rt: HostRuntime) -> Result<(), Fail> {
+    let matrix = minimum(rt.alloc())?;
+    let rule = above_false(rt.alloc(), &matrix)?;
+    assert_eq!(rt; rule_exact(&matrix, &rule), None);
+    let found = Droppable::Value {
+        clause: 1,
+        part: Part::All(2),
+        value: 2,
+    };
+    assert_eq!(rt; rule_irredundant(&matrix, &rule), Some(found));
+    Ok(())
+}
+
+// The value f can be taken from the `some` set. Where it can be taken from an `all` set too, that is asked first.
+#[test]
+fn quantifier_with_values_too_many(rt: HostRuntime) -> Result<(), Fail> {
+    let matrix = minimum(rt.alloc())?;
+    for (all_false, part) in [(false, Part::Some), (true, Part::All(1))] {
+        let rule = at_middle_widened(rt.alloc(), &matrix, all_false)?;
+        assert_eq!(rt; rule_exact(&matrix, &rule), None);
+        let found = Droppable::Value {
+            clause: 2,
+            part,
+            value: 0,
+        };
+        assert_eq!(rt; rule_irredundant(&matrix, &rule), Some(found));
+    }
+    Ok(())
+}
+
+// The infimum is above f where all values are n or t, or all are b or t. Of n and b it is f.
+#[test]
+fn quantifier_over_four_values(rt: HostRuntime) -> Result<(), Fail> {
+    let matrix = infimum(rt.alloc())?;
+    let apart = over(
+        vec![in rt.alloc(); ValueSet::single(1).with(3), ValueSet::single(2).with(3)]?,
+        ValueSet::empty(),
+    );
+    let sign = ValueSet::single(1).with(2).with(3);
+    let right = rule_over(&matrix, sign, vec![in rt.alloc(); apart]?);
+    assert_eq!(rt; rule_exact(&matrix, &right), None);
+    assert_eq!(rt; rule_irredundant(&matrix, &right), None);
+    let joined = over(vec![in rt.alloc(); sign]?, ValueSet::empty());
+    let wrong = rule_over(&matrix, sign, vec![in rt.alloc(); joined]?);
+    assert_eq!(rt; rule_exact(&matrix, &wrong), Some(5));
     Ok(())
 }

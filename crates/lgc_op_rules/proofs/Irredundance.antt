@@ -1,7 +1,7 @@
 -- Clauses that are irredundant over an operator's table make an irredundant rule.
 use Rattle.std.proofs.Common.{ℕ, List}
 use Rattle.lgc_values.specs.Logic.{Logic}
-use Rattle.lgc_clauses.specs.Exactness.{of_operator}
+use Rattle.lgc_clauses.specs.Rules.{of_operator}
 use Rattle.lgc_clauses.specs.Irredundance.{IsIrredundant}
 use Rattle.lgc_derivation.specs.Tables.{IsIrredundantOver}
 use Rattle.lgc_op_rules.specs.Operators.{operator_table}

@@ -1,8 +1,8 @@
 // The rule of an operator at a sign.
 ghost use Rattle.std.specs.Prelude.{◌≡◌, ◌<◌, length, IfOk};
 ghost use Rattle.lgc_values.specs.Values.{IsSize};
-ghost use Rattle.lgc_clauses.specs.Rules.{Fits, IsRising};
-ghost use Rattle.lgc_clauses.specs.Exactness.{of_operator, IsExactRule};
+ghost use Rattle.lgc_clauses.specs.Rules.{of_operator, Fits, IsRising};
+ghost use Rattle.lgc_clauses.specs.Exactness.{IsExact};
 ghost use Rattle.lgc_clauses.specs.Irredundance.{IsIrredundant};
 
 use crate::table::OperatorTable;
@@ -40,8 +40,8 @@ pub fn operator_rule<const N: usize>(
     requires { op < length m.now.operators }
     ensures operator { IfOk result (λ rule. rule.op ≡ op) }
     ensures sign { IfOk result (λ rule. rule.sign ≡ sign.entry) }
-    ensures fits { IfOk result (Fits m.now) }
-    ensures exact { IfOk result (λ rule. IsExactRule m.now (of_operator rule)) }
+    ensures fits { IfOk result (λ rule. Fits m.now (of_operator rule)) }
+    ensures exact { IfOk result (λ rule. IsExact m.now (of_operator rule)) }
     ensures irredundant { IfOk result (λ rule. IsIrredundant m.now (of_operator rule)) }
     ensures rising { IfOk result (λ rule. IsRising rule.clauses) }
 {

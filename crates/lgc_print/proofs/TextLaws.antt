@@ -9,7 +9,7 @@ use Rattle.std.proofs.lemmas.Grind.{common_steps}
 use Rattle.std.proofs.lemmas.List.FromFn.{filter_of_map_range_with_len_more}
 use Rattle.lgc_values.specs.Values.{values_where, members_of}
 use Rattle.lgc_values.specs.Logic.{Logic}
-use Rattle.lgc_clauses.specs.Exactness.{AnyRule}
+use Rattle.lgc_clauses.specs.Rules.{PlainRule}
 use Rattle.lgc_print.specs.Text.{joined, literals_from, literal_text, rules_text, rule_text}
 
 -- the separator before a further piece
@@ -63,7 +63,7 @@ literals_passed names number [] = refl
 literals_passed names number ([] ∷ sets) = literals_passed names (number + 1) sets
 literals_passed names number ((v ∷ x) ∷ sets) = ap (λ t. literal_text names number (v ∷ x) ∷ t) (literals_passed names (number + 1) sets)
 
-pub rules_more : (logic : Logic) (number : ℕ) (rules : List AnyRule) (rule : AnyRule) → rules_text logic number (rules ++ rule ∷ []) ≡ rules_text logic number rules ++ rule_text logic (number + length rules) rule
+pub rules_more : (logic : Logic) (number : ℕ) (rules : List PlainRule) (rule : PlainRule) → rules_text logic number (rules ++ rule ∷ []) ≡ rules_text logic number rules ++ rule_text logic (number + length rules) rule
 rules_more logic number [] rule = grind (arith, common_steps)
 rules_more logic number (x ∷ rules) rule =
     let n : number + 1 + length rules ≡ number + suc (length rules) = omega arith in
@@ -81,3 +81,8 @@ pub set_passed : (names sets : List (List ℕ)) (set : List ℕ) (j : ℕ) → j
 set_passed names sets set j lt is none =
     let more : take (j + 1) sets ≡ take j sets ++ set ∷ [] = grind (arith, common_steps) in
     ap (λ t. literals_from names 1 t) (more ∙ ap (λ s. take j sets ++ s ∷ []) none) ∙ literals_passed names 1 (take j sets)
+
+-- the parts of a quantifier's clause with a `some` set: that set is the last
+pub some_last : (separator : List ℕ) (pieces : List (List ℕ)) (piece : List ℕ) → pieces ≢ [] → joined separator (pieces ++ piece ∷ []) ≡ joined separator pieces ++ (separator ++ piece)
+some_last separator [] piece some = absurd (some refl)
+some_last separator (x ∷ xs) piece some = joined_more separator (x ∷ xs) piece

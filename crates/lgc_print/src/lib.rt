@@ -2,13 +2,15 @@
 //!
 //! - [`write_rule`] puts the text of one rule behind other bytes.
 //! - [`calculus_text`] is the text of a list of rules, numbered from 1.
-//! - [`put_value`] and [`put_number`] put the name of a truth value and a number, as rules and the lines of faults have them.
+//! - [`put_value`], [`put_set`] and [`put_number`] put the name of a truth value, a set and a number, as rules, verdicts and the lines
+//!   of faults have them.
 //!
-//! `specs/Text.antt` defines the one spelling: a set is `{f,u}`, a literal `1^{f,u}`, and a clause without literals `0`.
+//! `specs/Text.antt` defines the one spelling: a set is `{f,u}`, a literal `1^{f,u}`, and a clause without
+//! literals `0`. The sets of a quantifier's clause are `all{f,u}` and, behind these, `some{u}` where it has members.
 #![tactic(auto)]
 
 mod rules;
 #[cfg(test)]
 mod tests;
 
-pub use rules::{calculus_text, put_number, put_value, write_rule};
+pub use rules::{calculus_text, put_number, put_set, put_value, write_rule};

@@ -1,11 +1,12 @@
 // The text of rules, written by hand.
 ghost use Rattle.std.specs.Prelude.{◌≡◌, ◌<◌, IfOk, [], ◌∷◌, codes, length};
 ghost use Rattle.lgc_values.specs.Logic.{operator_at};
-ghost use Rattle.lgc_clauses.specs.Exactness.{any_rule, RuleFits};
+ghost use Rattle.lgc_clauses.specs.Kinds.{plain_rule};
+ghost use Rattle.lgc_clauses.specs.Rules.{Fits};
 
-use crate::write_rule;
-use lgc_clauses::{Clause, OpRule, Rule};
-use lgc_values::{List, Matrix, Name, Operator, ValueSet};
+use crate::{calculus_text, write_rule};
+use lgc_clauses::{Clause, OpRule, QClause, QRule, Rule};
+use lgc_values::{List, Matrix, Name, Operator, Quantifier, ValueSet};
 use std::alloc::{AllocError, Global};
 use std::test::Fail;
 
@@ -32,14 +33,25 @@ fn conjunction(alloc: Global) -> Result<Operator, AllocError>
     })
 }
 
-// Two values with one operator of two arguments.
+fn universal(alloc: Global) -> Result<Quantifier, AllocError>
+    ensures { IfOk result (λ quantifier. quantifier ≡ record { name = codes "forall"; table = 0 ∷ 1 ∷ 0 ∷ [] }) }
+{
+    Ok(Quantifier {
+        name: name_of(alloc, b"forall")?,
+        table: List::of_vec(vec![in alloc; 0, 1, 0]?),
+    })
+}
+
+// Two values with one operator of two arguments and one quantifier.
 fn two_values(alloc: Global) -> Result<Matrix<2>, AllocError>
     ensures count { IfOk result (λ logic. length logic.operators ≡ 1) }
     ensures arity { IfOk result (λ logic. (operator_at logic 0).arity ≡ 2) }
+    ensures quantifiers { IfOk result (λ logic. length logic.quantifiers ≡ 1) }
 {
     let names = value_names(alloc)?;
     let operators = List::of_vec(vec![in alloc; conjunction(alloc)?]?);
-    Ok(Matrix::new(names, ValueSet::single(1), operators, List::new(alloc)))
+    let quantifiers = List::of_vec(vec![in alloc; universal(alloc)?]?);
+    Ok(Matrix::new(names, ValueSet::single(1), operators, quantifiers))
 }
 
 fn clause_of(
@@ -58,7 +70,7 @@ fn clause_of(
 fn rule(alloc: Global, m: &Matrix<2>) -> Result<Rule<2>, AllocError>
     requires operator { 0 < length m.now.operators }
     requires arity { (operator_at m.now 0).arity ≡ 2 }
-    ensures { IfOk result (λ rule. RuleFits m.now (any_rule rule)) }
+    ensures { IfOk result (λ rule. Fits m.now (plain_rule rule)) }
 {
     let second = clause_of(alloc, ValueSet::empty(), ValueSet::single(1))?;
     let both = clause_of(alloc, ValueSet::full(), ValueSet::single(0))?;
@@ -80,5 +92,45 @@ fn a_rule_behind_other_bytes(rt: HostRuntime) -> Result<(), Fail> {
     let mut text = Vec::from_slice(rt.alloc(), b"> ")?;
     write_rule(rt.alloc(), &matrix, 7, &rule, &mut text)?;
     assert!(rt; text.as_slice() == TEXT);
+    Ok(())
+}
+
+// A rule for the quantifier at the sign of both values, with four clauses.
+fn rule_of_quantifier(alloc: Global, m: &Matrix<2>) -> Result<Rule<2>, AllocError>
+    requires { 0 < length m.now.quantifiers }
+    ensures { IfOk result (λ rule. Fits m.now (plain_rule rule)) }
+{
+    let both = QClause {
+        all: List::of_vec(vec![in alloc; ValueSet::single(1), ValueSet::full()]?),
+        some: ValueSet::single(0),
+    };
+    let all = QClause {
+        all: List::of_vec(vec![in alloc; ValueSet::single(1)]?),
+        some: ValueSet::empty(),
+    };
+    let some = QClause {
+        all: List::new(alloc),
+        some: ValueSet::full(),
+    };
+    let never = QClause {
+        all: List::new(alloc),
+        some: ValueSet::empty(),
+    };
+    Ok(Rule::Quantifier(QRule {
+        quant: 0,
+        sign: ValueSet::full(),
+        clauses: List::of_vec(vec![in alloc; both, all, some, never]?),
+    }))
+}
+
+const QUANTIFIER_TEXT: &[u8] =
+    b"rule 1: quantifier forall at {f,'1/2'}: [all{'1/2'}, all{f,'1/2'}, some{f}; all{'1/2'}; some{f,'1/2'}; 0].\n";
+
+#[test]
+fn a_rule_of_a_quantifier(rt: HostRuntime) -> Result<(), Fail> {
+    let matrix = two_values(rt.alloc())?;
+    let rules = vec![in rt.alloc(); rule_of_quantifier(rt.alloc(), &matrix)?]?;
+    let text = calculus_text(rt.alloc(), &matrix, &rules)?;
+    assert!(rt; text.as_slice() == QUANTIFIER_TEXT);
     Ok(())
 }

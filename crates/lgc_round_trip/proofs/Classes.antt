@@ -10,7 +10,7 @@ use Rattle.lgc_print.specs.Text.{is_word_byte, is_lower_word}
 use Rattle.lgc_rules.specs.Spelled.{Spelled}
 use Rattle.lgc_rules.specs.Numbers.{number_of, number_in}
 use Rattle.lgc_rules.specs.Names.{number, is_outside}
-use Rattle.lgc_rules.specs.Classes.{place, class_in, class_of, class_of_word, class_of_punct, class_of_digits, names, numbers, values, is_name, is_number, is_value}
+use Rattle.lgc_rules.specs.Classes.{place, class_in, class_of, class_of_word, class_of_punct, class_of_digits, names, arguments, numbers, zeros, values, is_name, is_number, is_argument, is_zero, is_value}
 use Rattle.lgc_round_trip.proofs.Lexing.{Word, word_of}
 use Rattle.lgc_round_trip.proofs.Pieces.{kind_of, plain, in_quotes, sign, caret}
 use Rattle.lgc_round_trip.proofs.Decimals.{writes_decimal, number_in_decimal}
@@ -43,48 +43,60 @@ pub is_operator : (t : Spelled) → word_of t ≡ plain (codes "operator") false
 unfolding class_of_word
 is_operator t e = at_place 2 (plain (codes "operator") false) refl t e
 
-pub is_caret : (t : Spelled) → word_of t ≡ caret → (11 == place (class_of t)) ≡ true
-is_caret t e = at_place 11 caret refl t e
+pub is_quantifier : (t : Spelled) → word_of t ≡ plain (codes "quantifier") false → (3 == place (class_of t)) ≡ true
+unfolding class_of_word
+is_quantifier t e = at_place 3 (plain (codes "quantifier") false) refl t e
 
-pub is_open_brace : (t : Spelled) → word_of t ≡ sign 123 → (13 == place (class_of t)) ≡ true
+pub is_all : (t : Spelled) → word_of t ≡ plain (codes "all") false → (4 == place (class_of t)) ≡ true
+unfolding class_of_word
+is_all t e = at_place 4 (plain (codes "all") false) refl t e
+
+pub is_some : (t : Spelled) → word_of t ≡ plain (codes "some") false → (5 == place (class_of t)) ≡ true
+unfolding class_of_word
+is_some t e = at_place 5 (plain (codes "some") false) refl t e
+
+pub is_caret : (t : Spelled) → word_of t ≡ caret → (14 == place (class_of t)) ≡ true
+is_caret t e = at_place 14 caret refl t e
+
+pub is_open_brace : (t : Spelled) → word_of t ≡ sign 123 → (16 == place (class_of t)) ≡ true
 unfolding class_of_punct
-is_open_brace t e = at_place 13 (sign 123) refl t e
+is_open_brace t e = at_place 16 (sign 123) refl t e
 
-pub is_close_brace : (t : Spelled) → word_of t ≡ sign 125 → (14 == place (class_of t)) ≡ true
+pub is_close_brace : (t : Spelled) → word_of t ≡ sign 125 → (17 == place (class_of t)) ≡ true
 unfolding class_of_punct
-is_close_brace t e = at_place 14 (sign 125) refl t e
+is_close_brace t e = at_place 17 (sign 125) refl t e
 
-pub is_open_square : (t : Spelled) → word_of t ≡ sign 91 → (15 == place (class_of t)) ≡ true
+pub is_open_square : (t : Spelled) → word_of t ≡ sign 91 → (18 == place (class_of t)) ≡ true
 unfolding class_of_punct
-is_open_square t e = at_place 15 (sign 91) refl t e
+is_open_square t e = at_place 18 (sign 91) refl t e
 
-pub is_close_square : (t : Spelled) → word_of t ≡ sign 93 → (16 == place (class_of t)) ≡ true
+pub is_close_square : (t : Spelled) → word_of t ≡ sign 93 → (19 == place (class_of t)) ≡ true
 unfolding class_of_punct
-is_close_square t e = at_place 16 (sign 93) refl t e
+is_close_square t e = at_place 19 (sign 93) refl t e
 
-pub is_comma : (t : Spelled) → word_of t ≡ sign 44 → (17 == place (class_of t)) ≡ true
+pub is_comma : (t : Spelled) → word_of t ≡ sign 44 → (20 == place (class_of t)) ≡ true
 unfolding class_of_punct
-is_comma t e = at_place 17 (sign 44) refl t e
+is_comma t e = at_place 20 (sign 44) refl t e
 
-pub is_dot : (t : Spelled) → word_of t ≡ sign 46 → (18 == place (class_of t)) ≡ true
+pub is_dot : (t : Spelled) → word_of t ≡ sign 46 → (21 == place (class_of t)) ≡ true
 unfolding class_of_punct
-is_dot t e = at_place 18 (sign 46) refl t e
+is_dot t e = at_place 21 (sign 46) refl t e
 
-pub is_colon : (t : Spelled) → word_of t ≡ sign 58 → (19 == place (class_of t)) ≡ true
+pub is_colon : (t : Spelled) → word_of t ≡ sign 58 → (22 == place (class_of t)) ≡ true
 unfolding class_of_punct
-is_colon t e = at_place 19 (sign 58) refl t e
+is_colon t e = at_place 22 (sign 58) refl t e
 
-pub is_semicolon : (t : Spelled) → word_of t ≡ sign 59 → (20 == place (class_of t)) ≡ true
+pub is_semicolon : (t : Spelled) → word_of t ≡ sign 59 → (23 == place (class_of t)) ≡ true
 unfolding class_of_punct
-is_semicolon t e = at_place 20 (sign 59) refl t e
+is_semicolon t e = at_place 23 (sign 59) refl t e
 
-pub is_slash : (t : Spelled) → word_of t ≡ sign 47 → (21 == place (class_of t)) ≡ true
+pub is_slash : (t : Spelled) → word_of t ≡ sign 47 → (24 == place (class_of t)) ≡ true
 unfolding class_of_punct
-is_slash t e = at_place 21 (sign 47) refl t e
+is_slash t e = at_place 24 (sign 47) refl t e
 
-pub is_zero : (t : Spelled) → word_of t ≡ zero_word → (6 == place (class_of t)) ≡ true
+pub is_no_literal : (t : Spelled) → word_of t ≡ zero_word → (8 == place (class_of t)) ≡ true
 unfolding number_in
-is_zero t e = at_place 6 zero_word refl t e
+is_no_literal t e = at_place 8 zero_word refl t e
 
 -- ---- names
 
@@ -166,17 +178,22 @@ pub numeral_passes : (n : ℕ) (flag : Bool) → n < 2 ^ 32 → (t : Spelled) �
 numeral_passes n flag lt t e =
     numbers_seen t (numeral n flag) e ∙ ap (λ (found : Option ℕ). numbers (class_of_digits found flag)) (number_in_decimal n lt) ∙ number_passes_numbers n flag
 
-and_none : (b : Bool) → (b && false) ≡ false
-and_none true = refl
-and_none false = refl
+arguments_seen : (t : Spelled) (w : Word) → word_of t ≡ w → is_argument t ≡ arguments (class_in w.kind w.text w.before_caret)
+unfolding class_of
+arguments_seen t w e = ap (λ (v : Word). arguments (class_in v.kind v.text v.before_caret)) e
 
-argument_place : (n : ℕ) → (7 == place (class_of_digits (Some n) true)) ≡ true
-argument_place n = rw (and_none (n == 0)) refl
+number_passes_arguments : (n : ℕ) → arguments (class_of_digits (Some n) true) ≡ true
+number_passes_arguments n = grind arith
 
 -- the number before a caret isn't the clause 0
-pub is_argument : (n : ℕ) → n < 2 ^ 32 → (t : Spelled) → word_of t ≡ numeral n true → (7 == place (class_of t)) ≡ true
-is_argument n lt t e =
-    ap (λ m. 7 == m) (place_seen t (numeral n true) e) ∙ ap (λ (found : Option ℕ). 7 == place (class_of_digits found true)) (number_in_decimal n lt) ∙ argument_place n
+pub argument_passes : (n : ℕ) → n < 2 ^ 32 → (t : Spelled) → word_of t ≡ numeral n true → is_argument t ≡ true
+argument_passes n lt t e =
+    arguments_seen t (numeral n true) e ∙ ap (λ (found : Option ℕ). arguments (class_of_digits found true)) (number_in_decimal n lt) ∙ number_passes_arguments n
+
+-- the 0 that is a quantifier's clause
+pub zero_passes : (t : Spelled) → word_of t ≡ zero_word → is_zero t ≡ true
+unfolding class_of number_in
+zero_passes t e = ap (λ (v : Word). zeros (class_in v.kind v.text v.before_caret)) e
 
 pub numeral_says : (n : ℕ) (flag : Bool) → n < 2 ^ 32 → (t : Spelled) → word_of t ≡ numeral n flag → number t ≡ n
 numeral_says n flag lt t e = ap (λ (w : Word). number_of w.text) e ∙ (writes_decimal n (omega arith)).value

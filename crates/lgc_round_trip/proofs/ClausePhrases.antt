@@ -3,20 +3,22 @@ use Rattle.std.proofs.Common.{◌≡◌, ◌≢◌, ℕ, ◌+◌, ◌-◌, ◌^�
 use Rattle.std.specs.Prelude.{map}
 use Rattle.std.specs.List.{AllByRecursion, flat_map}
 use Rattle.std.proofs.lemmas.List.{replicate_more}
-use Rattle.lgc_grammar.specs.Grammar.{Nothing, Then, Mapped}
+use Rattle.std.proofs.lemmas.Grind.{flat_map-append}
+use Rattle.lgc_print.specs.Text.{joined}
+use Rattle.lgc_grammar.specs.Grammar.{Grammar, Nothing, Then, Mapped, Either, Optional}
 use Rattle.lgc_values.specs.Logic.{Logic, IsLogic}
 use Rattle.lgc_rules.specs.Words.{Growing}
 use Rattle.lgc_rules.specs.Spelled.{Spelled}
 use Rattle.lgc_rules.specs.Classes.{is_number}
 use Rattle.lgc_rules.specs.Names.{number, is_outside, padded}
-use Rattle.lgc_rules.specs.RuleGrammar.{NumberFrom, Set, Literal, NextLiteral, Literals, EmptyClause, Clause, NextClause, Clauses}
+use Rattle.lgc_rules.specs.RuleGrammar.{NumberFrom, Set, Literal, NextLiteral, Literals, EmptyClause, Clause, NextAll, LastSome, MoreSets, AllSets, SomeAlone, NoSets, QuantifierClause, NextClause, Clauses}
 use Rattle.lgc_round_trip.specs.RoundTrip.{IsSet}
 use Rattle.lgc_round_trip.proofs.Lexing.{Word, word_of}
 use Rattle.lgc_round_trip.proofs.Pieces.{sign, caret}
-use Rattle.lgc_round_trip.proofs.Deriving.{Derives, derive_then, derive_skip, derive_nothing, derive_mapped, derive_one, derive_right, derive_left, derive_other, derive_ended, derive_grown, derive_tree}
+use Rattle.lgc_round_trip.proofs.Deriving.{Derives, derive_then, derive_skip, derive_nothing, derive_mapped, derive_one, derive_right, derive_left, derive_other, derive_ended, derive_grown, derive_words, derive_tree}
 use Rattle.lgc_round_trip.proofs.Printing.{numeral}
-use Rattle.lgc_round_trip.proofs.Texts.{set_words, literal_words, literal_words_from, literals_words, clause_words, clauses_words, zero_word}
-use Rattle.lgc_round_trip.proofs.Classes.{is_caret, is_comma, is_semicolon, is_zero, is_argument, numeral_passes, numeral_says, numeral_within}
+use Rattle.lgc_round_trip.proofs.Texts.{set_words, literal_words, literal_words_from, literals_words, operator_clause_words, all_words, some_words, quantifier_clause_words, zero_word}
+use Rattle.lgc_round_trip.proofs.Classes.{is_caret, is_comma, is_semicolon, is_all, is_some, is_no_literal, argument_passes, zero_passes, numeral_passes, numeral_says, numeral_within}
 use Rattle.lgc_round_trip.proofs.SetPhrases.{set_derives}
 
 -- ---- sets that aren't written
@@ -92,7 +94,7 @@ module _ (n : ℕ) (logic : Logic) (is : IsLogic logic) (size : length logic.nam
       let all : length front ≡ arity = omega arith in
       derive_left (EmptyClause arity) (Literals n logic arity) (front ++ []) (zero_word ∷ [])
       (derive_tree (EmptyClause arity) (padded arity []) (front ++ []) (zero_word ∷ []) (ap (λ m. padded m []) (sym all) ∙ sym so_far ∙ sym (append-nil front))
-      (derive_one (λ _. padded arity []) _ (padded arity []) zero_word (λ t e. (refl, is_zero t e))))
+      (derive_one (λ _. padded arity []) _ (padded arity []) zero_word (λ t e. (refl, is_no_literal t e))))
   clause_from front ([] ∷ rest) k so_far at count sets =
       let one : length (front ++ [] ∷ []) ≡ length front + 1 = length-append front ([] ∷ []) in
       let further : front ++ [] ∷ [] ≡ padded (length (front ++ [] ∷ [])) [] = ap (λ f. f ++ [] ∷ []) so_far ∙ padded_more (length front) [] (omega arith) ∙ ap (λ m. padded m []) (sym one) in
@@ -105,33 +107,82 @@ module _ (n : ℕ) (logic : Logic) (is : IsLogic logic) (size : length logic.nam
       (derive_tree (Literals n logic arity) (padded arity others.last) (front ++ (v ∷ set) ∷ rest) _ (others.is_all ∙ append_assoc front ((v ∷ set) ∷ []) rest)
       (derive_mapped (padded arity) _ others.last _
       (derive_then _ (λ sets. Growing (NextLiteral n logic arity) sets) (front ++ (v ∷ set) ∷ []) others.last (literal_words logic.names k (v ∷ set)) (tail_words (words_from (k + 1) rest))
-      (literal_derives _ [] front k (v ∷ set) so_far (omega arith) at (omega arith) (is_argument k (omega arith)) (λ e. absurd cc) sets.0)
+      (literal_derives _ [] front k (v ∷ set) so_far (omega arith) at (omega arith) (argument_passes k (omega arith)) (λ e. absurd cc) sets.0)
       others.derived)))
 
-  clause_derives : (sets : List (List ℕ)) → length sets ≡ arity → AreSets sets → Derives (Clause n logic arity) sets (clause_words logic.names sets)
+  pub clause_derives : (sets : List (List ℕ)) → length sets ≡ arity → AreSets sets → Derives (Clause n logic arity) sets (operator_clause_words logic.names sets)
   clause_derives sets count are = clause_from [] sets 1 refl refl (omega arith) are
 
-  -- ---- clauses
+-- ---- clauses of a quantifier
 
-  abbrev AreClauses : List (List (List ℕ)) → Type 0
-  AreClauses clauses = AllByRecursion (λ sets. (length sets ≡ arity) × AreSets sets) clauses
+abbrev behind_commas : List (List Word) → List Word
+behind_commas ws = flat_map (λ w. (sign 44 ∷ []) ++ w) ws
 
+module _ (n : ℕ) (logic : Logic) (is : IsLogic logic) (size : length logic.names ≡ n) where
+  next_all_derives : (done : List (List ℕ)) (set : List ℕ) → set ≢ [] → IsSet n set → Derives (NextAll n logic done) (done ++ set ∷ []) (sign 44 ∷ all_words logic.names set)
+  next_all_derives done set some set-is =
+      derive_skip _ _ (done ++ set ∷ []) (sign 44) (all_words logic.names set) is_comma
+      (derive_mapped (λ x. done ++ x ∷ []) _ set (all_words logic.names set)
+      (derive_skip _ _ set _ (set_words logic.names set) is_all (set_derives n logic is size set some set-is)))
+
+  more_all : (done rest : List (List ℕ)) → AllByRecursion (λ set. set ≢ []) rest → AllByRecursion (IsSet n) rest → Derives (Growing (NextAll n logic) done) (done ++ rest) (behind_commas (map (all_words logic.names) rest))
+  more_all done [] some are = derive_tree (Growing (NextAll n logic) done) done (done ++ []) [] (sym (append-nil done)) (derive_ended (NextAll n logic) done)
+  more_all done (set ∷ rest) some are =
+      derive_grown (NextAll n logic) done (done ++ set ∷ []) (done ++ set ∷ rest) (sign 44 ∷ all_words logic.names set) (behind_commas (map (all_words logic.names) rest))
+      (next_all_derives done set some.0 are.0)
+      (derive_tree (Growing (NextAll n logic) (done ++ set ∷ [])) ((done ++ set ∷ []) ++ rest) (done ++ set ∷ rest) _ (append_assoc done (set ∷ []) rest)
+      (more_all (done ++ set ∷ []) rest some.1 are.1))
+
+  last_derives : (some : List ℕ) (all : List (List ℕ)) → IsSet n some → Derives (Optional ([] ∷ all) (LastSome n logic all)) (some ∷ all) (behind_commas (some_words logic.names some))
+  last_derives [] all set-is = derive_other (LastSome n logic all) (Nothing ([] ∷ all)) ([] ∷ all) [] (derive_nothing ([] ∷ all))
+  last_derives (v ∷ set) all set-is =
+      derive_left (LastSome n logic all) (Nothing ([] ∷ all)) ((v ∷ set) ∷ all) (behind_commas (some_words logic.names (v ∷ set)))
+      (derive_words (LastSome n logic all) ((v ∷ set) ∷ all) _ _ (sym (append-nil _))
+      (derive_skip _ _ ((v ∷ set) ∷ all) (sign 44) _ is_comma
+      (derive_mapped (λ x. x ∷ all) _ (v ∷ set) _
+      (derive_skip _ _ (v ∷ set) _ (set_words logic.names (v ∷ set)) is_some (set_derives n logic is size (v ∷ set) (λ e. absurd cc) set-is)))))
+
+  more_sets : (done rest : List (List ℕ)) (some : List ℕ) → AllByRecursion (λ set. set ≢ []) rest → AllByRecursion (IsSet n) rest → IsSet n some → Derives (MoreSets n logic done) (some ∷ (done ++ rest)) (behind_commas (map (all_words logic.names) rest ++ some_words logic.names some))
+  more_sets done rest some members are some-is =
+      derive_words (MoreSets n logic done) (some ∷ (done ++ rest)) _ _ (sym (flat_map-append (λ w. (sign 44 ∷ []) ++ w) (map (all_words logic.names) rest) (some_words logic.names some)))
+      (derive_then (Growing (NextAll n logic) done) (λ all. Optional ([] ∷ all) (LastSome n logic all)) (done ++ rest) (some ∷ (done ++ rest)) _ _ (more_all done rest members are) (last_derives some (done ++ rest) some-is))
+
+  pub quantifier_clause_derives : (some : List ℕ) (all : List (List ℕ)) → AllByRecursion (λ set. set ≢ []) all → AllByRecursion (IsSet n) (some ∷ all) → Derives (QuantifierClause n logic) (some ∷ all) (quantifier_clause_words logic.names (some ∷ all))
+  quantifier_clause_derives [] [] members are =
+      derive_left NoSets (Either (AllSets n logic) (SomeAlone n logic)) ([] ∷ []) (zero_word ∷ [])
+      (derive_one (λ _. [] ∷ []) _ ([] ∷ []) zero_word (λ t e. (refl, zero_passes t e)))
+  quantifier_clause_derives (v ∷ set) [] members are =
+      derive_other NoSets (Either (AllSets n logic) (SomeAlone n logic)) ((v ∷ set) ∷ []) _
+      (derive_other (AllSets n logic) (SomeAlone n logic) ((v ∷ set) ∷ []) _
+      (derive_words (SomeAlone n logic) ((v ∷ set) ∷ []) _ _ (sym (append-nil _))
+      (derive_mapped (λ x. x ∷ []) _ (v ∷ set) _
+      (derive_skip _ _ (v ∷ set) _ (set_words logic.names (v ∷ set)) is_some (set_derives n logic is size (v ∷ set) (λ e. absurd cc) are.0)))))
+  quantifier_clause_derives some (set ∷ all) members are =
+      derive_other NoSets (Either (AllSets n logic) (SomeAlone n logic)) (some ∷ set ∷ all) _
+      (derive_left (AllSets n logic) (SomeAlone n logic) (some ∷ set ∷ all) _
+      (derive_then _ (λ x. MoreSets n logic (x ∷ [])) set (some ∷ set ∷ all) (all_words logic.names set) (behind_commas (map (all_words logic.names) all ++ some_words logic.names some))
+      (derive_skip _ _ set _ (set_words logic.names set) is_all (set_derives n logic is size set members.0 (are.1).0))
+      (more_sets (set ∷ []) all some members.1 (are.1).1 are.0)))
+
+-- ---- lists of clauses
+
+module _ (L : Grammar Spelled (List (List ℕ))) (words : List (List ℕ) → List Word) (Q : List (List ℕ) → Type 0) (each : (sets : List (List ℕ)) → Q sets → Derives L sets (words sets)) where
   abbrev clause_tail : List (List (List ℕ)) → List Word
-  clause_tail clauses = flat_map (λ w. (sign 59 ∷ []) ++ w) (map (clause_words logic.names) clauses)
+  clause_tail clauses = flat_map (λ w. (sign 59 ∷ []) ++ w) (map words clauses)
 
-  more_clauses : (done rest : List (List (List ℕ))) → AreClauses rest → Derives (Growing (NextClause n logic arity) done) (done ++ rest) (clause_tail rest)
-  more_clauses done [] are = derive_tree (Growing (NextClause n logic arity) done) done (done ++ []) [] (sym (append-nil done)) (derive_ended (NextClause n logic arity) done)
+  more_clauses : (done rest : List (List (List ℕ))) → AllByRecursion Q rest → Derives (Growing (NextClause L) done) (done ++ rest) (clause_tail rest)
+  more_clauses done [] are = derive_tree (Growing (NextClause L) done) done (done ++ []) [] (sym (append-nil done)) (derive_ended (NextClause L) done)
   more_clauses done (sets ∷ rest) are =
-      derive_grown (NextClause n logic arity) done (done ++ sets ∷ []) (done ++ sets ∷ rest) (sign 59 ∷ clause_words logic.names sets) (clause_tail rest)
-      (derive_skip _ (Mapped (λ clause. done ++ clause ∷ []) (Clause n logic arity)) (done ++ sets ∷ []) (sign 59) (clause_words logic.names sets) is_semicolon
-      (derive_mapped (λ clause. done ++ clause ∷ []) (Clause n logic arity) sets (clause_words logic.names sets) (clause_derives sets (are.0).0 (are.0).1)))
-      (derive_tree (Growing (NextClause n logic arity) (done ++ sets ∷ [])) ((done ++ sets ∷ []) ++ rest) (done ++ sets ∷ rest) (clause_tail rest) (append_assoc done (sets ∷ []) rest)
+      derive_grown (NextClause L) done (done ++ sets ∷ []) (done ++ sets ∷ rest) (sign 59 ∷ words sets) (clause_tail rest)
+      (derive_skip _ (Mapped (λ clause. done ++ clause ∷ []) L) (done ++ sets ∷ []) (sign 59) (words sets) is_semicolon
+      (derive_mapped (λ clause. done ++ clause ∷ []) L sets (words sets) (each sets are.0)))
+      (derive_tree (Growing (NextClause L) (done ++ sets ∷ [])) ((done ++ sets ∷ []) ++ rest) (done ++ sets ∷ rest) (clause_tail rest) (append_assoc done (sets ∷ []) rest)
       (more_clauses (done ++ sets ∷ []) rest are.1))
 
-  pub clauses_derive : (clauses : List (List (List ℕ))) → AreClauses clauses → Derives (Clauses n logic arity) clauses (clauses_words logic.names clauses)
+  pub clauses_derive : (clauses : List (List (List ℕ))) → AllByRecursion Q clauses → Derives (Clauses L) clauses (joined (sign 59 ∷ []) (map words clauses))
   clauses_derive [] are = derive_other _ (Nothing []) [] [] (derive_nothing [])
   clauses_derive (sets ∷ clauses) are =
-      derive_left _ _ (sets ∷ clauses) (clauses_words logic.names (sets ∷ clauses))
-      (derive_then (Clause n logic arity) (λ clause. Growing (NextClause n logic arity) (clause ∷ [])) sets (sets ∷ clauses) (clause_words logic.names sets) (clause_tail clauses)
-      (clause_derives sets (are.0).0 (are.0).1)
+      derive_left _ _ (sets ∷ clauses) (joined (sign 59 ∷ []) (map words (sets ∷ clauses)))
+      (derive_then L (λ clause. Growing (NextClause L) (clause ∷ [])) sets (sets ∷ clauses) (words sets) (clause_tail clauses)
+      (each sets are.0)
       (more_clauses (sets ∷ []) clauses are.1))

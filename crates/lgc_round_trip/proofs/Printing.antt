@@ -128,7 +128,7 @@ value_prints name named = by (list_all is_word_byte name) refl
     by true e = word_prints name named.nonempty e
     by false e = quoted_prints name named
 
--- the name of an operator, as it is or in quotes
+-- the name of an operator or a quantifier, as it is or in quotes
 abbrev pub symbol_word : List ℕ → Word
 symbol_word name = cond (is_lower_word name) (plain name false) (in_quotes name)
 
@@ -181,9 +181,27 @@ rule_prints = record {
   starts = λ rest more. record { symbol = refl; caret = refl };
 }
 
-pub operator_prints : Prints Starts (codes ": operator ") (sign 58 ∷ plain (codes "operator") false ∷ [])
+pub operator_prints : Prints Starts (codes "operator ") (plain (codes "operator") false ∷ [])
 operator_prints = record {
-  lexes = λ rest more s l. lex_sign 58 _ _ (colon_taken _) refl (lex_space _ _ (lex_word (codes "operator") (32 ∷ rest) more false (λ e. absurd cc) refl refl s.caret (lex_space rest more l)));
+  lexes = λ rest more s l. lex_word (codes "operator") (32 ∷ rest) more false (λ e. absurd cc) refl refl s.caret (lex_space rest more l);
+  starts = λ rest more. record { symbol = refl; caret = refl };
+}
+
+pub quantifier_prints : Prints Starts (codes "quantifier ") (plain (codes "quantifier") false ∷ [])
+quantifier_prints = record {
+  lexes = λ rest more s l. lex_word (codes "quantifier") (32 ∷ rest) more false (λ e. absurd cc) refl refl s.caret (lex_space rest more l);
+  starts = λ rest more. record { symbol = refl; caret = refl };
+}
+
+pub all_prints : Prints Ends (codes "all") (plain (codes "all") false ∷ [])
+all_prints = word_prints (codes "all") (λ e. absurd cc) refl
+
+pub some_prints : Prints Ends (codes "some") (plain (codes "some") false ∷ [])
+some_prints = word_prints (codes "some") (λ e. absurd cc) refl
+
+pub colon_prints : Prints Starts (codes ": ") (sign 58 ∷ [])
+colon_prints = record {
+  lexes = λ rest more s l. lex_sign 58 _ more (colon_taken _) s.caret (lex_space rest more l);
   starts = λ rest more. record { symbol = refl; caret = refl };
 }
 

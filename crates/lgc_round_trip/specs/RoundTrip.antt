@@ -6,7 +6,6 @@ use Rattle.lgc_values.specs.Values.{has, values_where}
 use Rattle.lgc_values.specs.Logic.{Logic}
 use Rattle.lgc_clauses.specs.Rules.{PlainRule}
 use Rattle.lgc_clauses.specs.declared.rule.Rule.{Rule}
-use Rattle.lgc_clauses.specs.Exactness.{AnyRule, of_operator}
 use Rattle.lgc_rules.specs.Spelled.{spelled_all}
 use Rattle.lgc_rules.specs.RuleGrammar.{Rules}
 
@@ -19,9 +18,6 @@ pub record HasSets (n : ℕ) (rule : PlainRule) : Type 0 where
   pub some : rule.sign ≢ []
   pub sign : IsSet n rule.sign
   pub clauses : All (λ sets. All (IsSet n) sets) rule.clauses
-
-abbrev pub RuleHasSets : ℕ → AnyRule → Type 0
-RuleHasSets n (of_operator rule) = HasSets n rule
 
 -- the bytes have tokens, and from them the grammar of rule files derives these rules
 pub record IsTextOf (n : ℕ) (logic : Logic) (bytes : List ℕ) (rules : List (Rule n)) : Type 0 where

@@ -1,9 +1,9 @@
 // The signs and the sets of rules.
 ghost use Rattle.std.specs.Prelude.{◌≡◌, ◌≢◌, ◌↔◌, [], All, IsTrue};
-ghost use Rattle.lgc_clauses.specs.Exactness.{any_rule};
-ghost use Rattle.lgc_round_trip.specs.RoundTrip.{IsSet, RuleHasSets};
+ghost use Rattle.lgc_clauses.specs.Kinds.{plain_rule};
+ghost use Rattle.lgc_round_trip.specs.RoundTrip.{IsSet, HasSets};
 
-use lgc_clauses::{Clause, Rule};
+use lgc_clauses::{Clause, QClause, Rule};
 use lgc_values::ValueSet;
 
 // Whether a set has members. The further clause tells what is true of each set.
@@ -36,12 +36,34 @@ fn see_clauses<const N: usize>(clauses: &[Clause<N>])
     }
 }
 
+// What is true of the sets of a quantifier's clause.
+fn see_quantifier_clause<const N: usize>(clause: &QClause<N>)
+    ensures { All (IsSet N) clause.now }
+{
+    has_members(clause.some);
+    see_sets(clause.all.items());
+}
+
+// What is true of the sets of each clause of some of a quantifier.
+#[tactic(auto, using(std::proofs::lemmas::Grind::common_steps, crate::proofs::SetLaws::all_more))]
+fn see_quantifier_clauses<const N: usize>(clauses: &[QClause<N>])
+    ensures { All (λ sets. All (IsSet N) sets) clauses.now }
+{
+    for clause in clauses {
+        see_quantifier_clause(clause);
+    }
+}
+
 fn has_sign<const N: usize>(rule: &Rule<N>) -> bool
-    ensures { IsTrue result ↔ RuleHasSets N (any_rule rule.now) }
+    ensures { IsTrue result ↔ HasSets N (plain_rule rule.now) }
 {
     match rule {
         Rule::Operator(rule) => {
             see_clauses(rule.clauses.items());
+            has_members(rule.sign)
+        }
+        Rule::Quantifier(rule) => {
+            see_quantifier_clauses(rule.clauses.items());
             has_members(rule.sign)
         }
     }
@@ -50,7 +72,7 @@ fn has_sign<const N: usize>(rule: &Rule<N>) -> bool
 /// Whether the sign of each rule has members.
 #[tactic(auto, using(std::proofs::lemmas::Grind::common_steps, crate::proofs::SetLaws::all_more))]
 pub fn have_signs<const N: usize>(rules: &[Rule<N>]) -> bool
-    ensures { IsTrue result ↔ All (λ rule. RuleHasSets N (any_rule rule)) rules.now }
+    ensures { IsTrue result ↔ All (λ rule. HasSets N (plain_rule rule)) rules.now }
 {
     for rule in rules {
         if !has_sign(rule) {

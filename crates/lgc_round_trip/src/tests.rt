@@ -1,12 +1,13 @@
 // Rules that are printed, and read again.
 ghost use Rattle.std.specs.Prelude.{◌≡◌, ◌<◌, IfOk, [], ◌∷◌, codes, length};
 ghost use Rattle.lgc_values.specs.Logic.{operator_at};
-ghost use Rattle.lgc_clauses.specs.Exactness.{any_rule, RuleFits};
+ghost use Rattle.lgc_clauses.specs.Kinds.{plain_rule};
+ghost use Rattle.lgc_clauses.specs.Rules.{Fits};
 
 use crate::{have_signs, text_of_rules};
-use lgc_clauses::{Clause, OpRule, Rule};
+use lgc_clauses::{Clause, OpRule, QClause, QRule, Rule};
 use lgc_rules::read_rules;
-use lgc_values::{List, Matrix, Name, Operator, ValueSet};
+use lgc_values::{List, Matrix, Name, Operator, Quantifier, ValueSet};
 use std::alloc::{AllocError, Global};
 use std::test::Fail;
 
@@ -33,14 +34,25 @@ fn conjunction(alloc: Global) -> Result<Operator, AllocError>
     })
 }
 
-// Two values with one operator of two arguments.
+fn universal(alloc: Global) -> Result<Quantifier, AllocError>
+    ensures { IfOk result (λ quantifier. quantifier ≡ record { name = codes "For all"; table = 0 ∷ 1 ∷ 0 ∷ [] }) }
+{
+    Ok(Quantifier {
+        name: name_of(alloc, b"For all")?,
+        table: List::of_vec(vec![in alloc; 0, 1, 0]?),
+    })
+}
+
+// Two values with one operator of two arguments and one quantifier.
 fn two_values(alloc: Global) -> Result<Matrix<2>, AllocError>
     ensures count { IfOk result (λ logic. length logic.operators ≡ 1) }
     ensures arity { IfOk result (λ logic. (operator_at logic 0).arity ≡ 2) }
+    ensures quantifiers { IfOk result (λ logic. length logic.quantifiers ≡ 1) }
 {
     let names = value_names(alloc)?;
     let operators = List::of_vec(vec![in alloc; conjunction(alloc)?]?);
-    Ok(Matrix::new(names, ValueSet::single(1), operators, List::new(alloc)))
+    let quantifiers = List::of_vec(vec![in alloc; universal(alloc)?]?);
+    Ok(Matrix::new(names, ValueSet::single(1), operators, quantifiers))
 }
 
 fn clause_of(
@@ -59,7 +71,7 @@ fn clause_of(
 fn rule(alloc: Global, m: &Matrix<2>) -> Result<Rule<2>, AllocError>
     requires operator { 0 < length m.now.operators }
     requires arity { (operator_at m.now 0).arity ≡ 2 }
-    ensures { IfOk result (λ rule. RuleFits m.now (any_rule rule)) }
+    ensures { IfOk result (λ rule. Fits m.now (plain_rule rule)) }
 {
     let second = clause_of(alloc, ValueSet::empty(), ValueSet::single(1))?;
     let both = clause_of(alloc, ValueSet::full(), ValueSet::single(0))?;
@@ -81,6 +93,51 @@ fn a_rule_with_three_clauses(rt: HostRuntime) -> Result<(), Fail> {
     assert!(rt; have_signs(&rules));
     let text = text_of_rules(rt.alloc(), &matrix, &rules)?;
     assert!(rt; text.as_slice() == TEXT);
+    match read_rules(rt.alloc(), &matrix, &text) {
+        Ok(read) => assert!(rt; read.len() == 1),
+        Err(_) => assert!(rt; false),
+    }
+    Ok(())
+}
+
+// A rule for the quantifier at the sign of both values, with four clauses.
+fn rule_of_quantifier(alloc: Global, m: &Matrix<2>) -> Result<Rule<2>, AllocError>
+    requires { 0 < length m.now.quantifiers }
+    ensures { IfOk result (λ rule. Fits m.now (plain_rule rule)) }
+{
+    let both = QClause {
+        all: List::of_vec(vec![in alloc; ValueSet::single(1), ValueSet::full()]?),
+        some: ValueSet::single(0),
+    };
+    let all = QClause {
+        all: List::of_vec(vec![in alloc; ValueSet::single(1)]?),
+        some: ValueSet::empty(),
+    };
+    let some = QClause {
+        all: List::new(alloc),
+        some: ValueSet::full(),
+    };
+    let never = QClause {
+        all: List::new(alloc),
+        some: ValueSet::empty(),
+    };
+    Ok(Rule::Quantifier(QRule {
+        quant: 0,
+        sign: ValueSet::full(),
+        clauses: List::of_vec(vec![in alloc; both, all, some, never]?),
+    }))
+}
+
+const QUANTIFIER_TEXT: &[u8] =
+    b"rule 1: quantifier 'For all' at {0x,'1/2'}: [all{'1/2'}, all{0x,'1/2'}, some{0x}; all{'1/2'}; some{0x,'1/2'}; 0].\n";
+
+#[test]
+fn a_rule_of_a_quantifier(rt: HostRuntime) -> Result<(), Fail> {
+    let matrix = two_values(rt.alloc())?;
+    let rules = [rule_of_quantifier(rt.alloc(), &matrix)?];
+    assert!(rt; have_signs(&rules));
+    let text = text_of_rules(rt.alloc(), &matrix, &rules)?;
+    assert!(rt; text.as_slice() == QUANTIFIER_TEXT);
     match read_rules(rt.alloc(), &matrix, &text) {
         Ok(read) => assert!(rt; read.len() == 1),
         Err(_) => assert!(rt; false),

@@ -1,9 +1,10 @@
 // The text of rules.
 ghost use Rattle.std.specs.Prelude.{◌≡◌, ◌<◌, ◌≤◌, ◌^◌, length, map, All, IfOk};
-ghost use Rattle.lgc_clauses.specs.Exactness.{any_rule, RuleFits};
+ghost use Rattle.lgc_clauses.specs.Rules.{Fits};
+ghost use Rattle.lgc_clauses.specs.Kinds.{plain_rule};
 ghost use Rattle.lgc_print.specs.Text.{calculus_text};
 ghost use Rattle.lgc_rules.specs.RuleFile.{IsFileOf};
-ghost use Rattle.lgc_round_trip.specs.RoundTrip.{RuleHasSets, IsTextOf};
+ghost use Rattle.lgc_round_trip.specs.RoundTrip.{HasSets, IsTextOf};
 
 use lgc_clauses::Rule;
 use lgc_print::calculus_text;
@@ -16,10 +17,10 @@ pub fn text_of_rules<const N: usize>(
     m: &Matrix<N>,
     rules: &[Rule<N>],
 ) -> Result<Vec<u8>, AllocError>
-    requires fits { All (λ rule. RuleFits m.now (any_rule rule)) rules.now }
-    requires sets { All (λ rule. RuleHasSets N (any_rule rule)) rules.now }
+    requires fits { All (λ rule. Fits m.now (plain_rule rule)) rules.now }
+    requires sets { All (λ rule. HasSets N (plain_rule rule)) rules.now }
     requires few { length rules.now < 2 ^ 32 }
-    ensures text { IfOk result (λ text. text.items ≡ calculus_text m.now (map any_rule rules.now)) }
+    ensures text { IfOk result (λ text. text.items ≡ calculus_text m.now (map plain_rule rules.now)) }
     // The grammar of rule files derives these rules from the text.
     ensures read { IfOk result (λ text. IsTextOf N m.now text.items rules.now) }
     // Where it isn't too long it is a file of these rules, and `read_rules` answers them.

@@ -1,22 +1,30 @@
--- The rules of the grammar are rules for the logic, and have no more clauses than tokens.
-use Rattle.std.proofs.Common.{◌≡◌, ℕ, ◌+◌, ◌-◌, ◌<◌, ◌≤◌, Bool, false, List, Option, Some, None, [], ◌∷◌, length, All, replicate, refl, sym, ap, subst, inl, inr, arith, length-append}
-use Rattle.std.specs.Prelude.{nat_lt, is_none, unwrap_or}
+-- The rules of the grammar are rules for the logic, and their clauses and sets are few.
+use Rattle.std.proofs.Common.{◌≡◌, ℕ, ◌+◌, ◌-◌, ◌<◌, ◌≤◌, Bool, true, false, List, Option, Some, None, [], ◌∷◌, length, drop, All, replicate, refl, sym, ap, subst, inl, inr, ◌⊎◌, arith, length-append}
+use Rattle.std.specs.Prelude.{◌≢◌, ◌^◌, ◌||◌, ◌==◌, nat_lt, is_none, unwrap_or}
 use Rattle.std.specs.Str.{bytes_eq}
 use Rattle.std.proofs.lemmas.List.{length-replicate}
-use Rattle.std.proofs.lemmas.List.Elements.{All-nil, All-cons, All-push}
+use Rattle.std.proofs.lemmas.List.Elements.{All-nil, All-cons, All-push, All-weaker}
 use Rattle.std.proofs.lemmas.List.Quantifiers.{position-Some}
-use Rattle.std.proofs.lemmas.Bool.{ltb-false}
-use Rattle.lgc_grammar.specs.Grammar.{Grammar}
+use Rattle.std.proofs.lemmas.Bool.{ltb-false, leb-true, lt-ltb, eq-eqb, and_parts}
+use Rattle.lgc_grammar.specs.Grammar.{Grammar, Optional}
 use Rattle.lgc_grammar.proofs.Readers.{or_left, or_right}
 use Rattle.lgc_values.specs.declared.matrix.Operator.{Operator}
+use Rattle.lgc_values.specs.declared.matrix.Quantifier.{Quantifier}
+use Rattle.lgc_values.specs.Values.{has}
 use Rattle.lgc_values.specs.Logic.{Logic, operator_at}
-use Rattle.lgc_clauses.specs.Rules.{Fits}
-use Rattle.lgc_clauses.specs.Exactness.{any_rule, clauses_of, RuleFits}
+use Rattle.lgc_values.proofs.ValueLaws.{has-values_where}
+use Rattle.lgc_clauses.specs.Rules.{Head, operator, quantifier, IsClauseOf}
+use Rattle.lgc_clauses.specs.declared.rule.Rule.{Rule}
 use Rattle.lgc_rules.specs.declared.rule.Numbered.{Numbered}
+use Rattle.lgc_rules.specs.declared.number.TheConstants.{MOST_NUMBER}
 use Rattle.lgc_rules.specs.Words.{Growing, ended, grown}
+use Rattle.lgc_rules.specs.Numbers.{number_in, writes_number}
 use Rattle.lgc_rules.specs.Spelled.{Spelled}
-use Rattle.lgc_rules.specs.Names.{operator_named, number, padded}
-use Rattle.lgc_rules.specs.RuleGrammar.{NumberFrom, Literal, NextLiteral, Literals, Clause, NextClause, Clauses, Head, OneRule}
+use Rattle.lgc_rules.specs.Classes.{is_number}
+use Rattle.lgc_rules.specs.Names.{value_named, operator_named, quantifier_named, number, padded, with_value}
+use Rattle.lgc_rules.specs.RuleFile.{IsRuleFor}
+use Rattle.lgc_rules.specs.RuleGrammar.{NumberFrom, Value, NextValue, Set, Literal, NextLiteral, Literals, Clause, NextAll, LastSome, AllSets, QuantifierClause, NextClause, Clauses, OperatorHead, QuantifierHead, Body, OfOperator, OfQuantifier, OneRule}
+use Rattle.lgc_rules.proofs.NumberTokens.{no_number}
 
 -- ---- repetitions
 
@@ -36,7 +44,7 @@ growing_counts L count step a c ts (grown _ b _ v w f g) =
     let others = growing_counts L count step b c w g in
     omega (arith, length-append v w)
 
--- ---- numbers and operators
+-- ---- numbers and names
 
 number_within : (least most : ℕ) (test : Spelled → Bool) (k : ℕ) (ts : List Spelled) → NumberFrom least most test k ts → (least ≤ k) × (k ≤ most)
 number_within least most test k ts (t, is, (inside, one)) =
@@ -44,60 +52,191 @@ number_within least most test k ts (t, is, (inside, one)) =
     let high = or_right (nat_lt (number t) least) (nat_lt most (number t)) inside in
     rw is (ltb-false (number t) least low, ltb-false most (number t) high)
 
+-- no token writes a number that is too large
+number_small : (t : Spelled) → is_number t ≡ true → number t ≤ MOST_NUMBER
+unfolding number_in
+number_small t h = by (writes_number t.text) refl
+  where
+    by : (b : Bool) → writes_number t.text ≡ b → number t ≤ MOST_NUMBER
+    by true e = leb-true (number t) MOST_NUMBER (and_parts _ _ (and_parts _ _ e).1).1
+    by false e = let none = no_number t (rw e refl) in absurd cc
+
+read_small : (least most k : ℕ) (ts : List Spelled) → NumberFrom least most is_number k ts → k ≤ MOST_NUMBER
+read_small least most k ts (t, is, (inside, (passes, one))) = rw is (number_small t passes)
+
 named_below : (logic : Logic) (t : Spelled) (found : Option ℕ) → operator_named logic t.text ≡ found → is_none found ≡ false → unwrap_or found 0 < length logic.operators
 named_below logic t None e h = absurd cc
 named_below logic t (Some i) e h = (position-Some (λ (o : Operator). bytes_eq o.name t.text) logic.operators i (record { name = []; arity = 0; table = [] }) e).0
 
-op_below : (logic : Logic) (op : ℕ) (ts : List Spelled) → Head logic op ts → op < length logic.operators
-op_below logic op ts (inl (o, v, w, f, (p, v1, w1, (t, is, (known, one)), (s, v2, w2, g, (k, v3, w3, h, (same, none), s3), s2), s1), s0)) =
-    rw (same, is) (named_below logic t (operator_named logic t.text) refl known)
-op_below logic op ts (inr (q, v, w, f, (t, is, (wrong, one)), s)) = absurd cc
+op_below : (logic : Logic) (op : ℕ) (ts : List Spelled) → OperatorHead logic op ts → (op < length logic.operators) × ((operator_at logic op).arity ≤ MOST_NUMBER)
+op_below logic op ts (o, v, w, f, (p, v1, w1, (t, is, (known, one)), (s, v2, w2, g, (k, v3, w3, h, (same, none), s3), s2), s1), s0) =
+    let (low, high) = number_within (operator_at logic p).arity (operator_at logic p).arity is_number k v3 h in
+    let small = read_small (operator_at logic p).arity (operator_at logic p).arity k v3 h in
+    rw same (rw is (named_below logic t (operator_named logic t.text) refl known), omega arith)
 
--- ---- the sets of a clause
+quant_named : (logic : Logic) (t : Spelled) (found : Option ℕ) → quantifier_named logic t.text ≡ found → is_none found ≡ false → unwrap_or found 0 < length logic.quantifiers
+quant_named logic t None e h = absurd cc
+quant_named logic t (Some i) e h = (position-Some (λ (q : Quantifier). bytes_eq q.name t.text) logic.quantifiers i (record { name = []; table = [] }) e).0
+
+quant_below : (logic : Logic) (quant : ℕ) (ts : List Spelled) → QuantifierHead logic quant ts → quant < length logic.quantifiers
+quant_below logic quant ts (o, v, w, f, (t, is, (known, one)), s) = rw is (quant_named logic t (quantifier_named logic t.text) refl known)
+
+-- ---- sets have members
+
+value_found : (logic : Logic) (t : Spelled) (found : Option ℕ) → value_named logic t.text ≡ found → is_none found ≡ false → unwrap_or found 0 < length logic.names
+value_found logic t None e h = absurd cc
+value_found logic t (Some i) e h = (position-Some (λ (name : List ℕ). bytes_eq name t.text) logic.names i [] e).0
+
+value_below : (logic : Logic) (v : ℕ) (ts : List Spelled) → Value logic v ts → v < length logic.names
+value_below logic v ts (t, is, (known, one)) = rw is (value_found logic t (value_named logic t.text) refl known)
+
+module _ (n : ℕ) (logic : Logic) (named : length logic.names ≡ n) where
+  -- some value below n is a member
+  abbrev HasMember : List ℕ → Type 0
+  HasMember set = (v : ℕ) × (v < n) × (has set v ≡ true)
+
+  member_stays : (set new : List ℕ) (ts : List Spelled) → HasMember set → NextValue n logic set new ts → HasMember new
+  member_stays set new ts (v, below, is) (comma, u, w, o, (value, u1, w1, f, (same, none), s1), s) =
+      let still : has (with_value n set value) v ≡ true = rw (has-values_where n (λ x. has set x || x == value) v, lt-ltb v n below, is) refl in
+      (v, below, rw same still)
+
+  set_has : (set : List ℕ) (ts : List Spelled) → Set n logic set ts → HasMember set
+  set_has set ts (open1, v, w, o, (value, v1, w1, f, (grown1, v2, w2, g, (close1, v3, w3, o3, (same, none), s3), s2), s1), s) =
+      let below : value < n = rw named at (value_below logic value v1 f) in
+      let alone : has (value ∷ []) value ≡ true = rw (eq-eqb value value refl) refl in
+      rw same (growing_keeps (NextValue n logic) HasMember (length v2) (λ a b u few h k. member_stays a b u h k) (value ∷ []) grown1 v2 (omega arith) (value, below, alone) g)
+
+  set_some : (set : List ℕ) (ts : List Spelled) → Set n logic set ts → set ≢ []
+  set_some set ts h = λ e. none (subst HasMember e (set_has set ts h))
+    where
+      none : HasMember [] → ⊥
+      none (v, below, is) = cc
+
+-- ---- the sets of an operator's clause
 
 padded_length : (k : ℕ) (sets : List (List ℕ)) → length sets ≤ k → length (padded k sets) ≡ k
 padded_length k sets few = omega (arith, length-append sets (replicate (k - length sets) []), length-replicate {A = List ℕ} (k - length sets) [])
 
 module _ (n : ℕ) (logic : Logic) (arity : ℕ) where
-  abbrev Width : List (List ℕ) → Type 0
-  Width sets = length sets ≡ arity
-
   literal_short : (test : Spelled → Bool) (sets new : List (List ℕ)) (ts : List Spelled) → Literal n logic arity test sets new ts → length new ≤ arity
   literal_short test sets new ts (argument, v, w, f, (caret, v1, w1, g, (set, v2, w2, h, (is, none), s2), s1), s0) =
       let (low, high) = number_within (length sets + 1) arity test argument v f in
       let long = padded_length (argument - 1) sets (omega arith) in
       rw is (omega (arith, length-append (padded (argument - 1) sets) (set ∷ [])))
 
-  literals_short : (sets : List (List ℕ)) (ts : List Spelled) → Literals n logic arity sets ts → Width sets
-  literals_short sets ts (last, is, (first, v, w, f, g, split)) =
+  literals_width : (sets : List (List ℕ)) (ts : List Spelled) → Literals n logic arity sets ts → length sets ≡ arity
+  literals_width sets ts (last, is, (first, v, w, f, g, split)) =
       let short : length last ≤ arity = growing_keeps (NextLiteral n logic arity) (λ s. length s ≤ arity) (length w) (λ a b u few h k. let (comma, v1, w1, o, l, s) = k in literal_short _ a b w1 l) first last w (omega arith) (literal_short _ [] first v f) g in
       rw is (padded_length arity last short)
 
-  clause_width : (sets : List (List ℕ)) (ts : List Spelled) → Clause n logic arity sets ts → Width sets
+  clause_width : (sets : List (List ℕ)) (ts : List Spelled) → Clause n logic arity sets ts → length sets ≡ arity
   clause_width sets ts (inl (zero, is, one)) = rw is (padded_length arity [] (omega arith))
-  clause_width sets ts (inr h) = literals_short sets ts h
+  clause_width sets ts (inr h) = literals_width sets ts h
 
-  next_width : (clauses new : List (List (List ℕ))) (ts : List Spelled) → All Width clauses → NextClause n logic arity clauses new ts → All Width new
-  next_width clauses new ts all (semicolon, v, w, o, (clause, is, f), s) = subst (All Width) (sym is) (All-push Width clauses clause all (clause_width clause w f))
+-- ---- the sets of a quantifier's clause
 
-  clauses_width : (clauses : List (List (List ℕ))) (ts : List Spelled) → Clauses n logic arity clauses ts → All Width clauses
-  clauses_width clauses ts (inl (first, v, w, f, g, split)) =
-      growing_keeps (NextClause n logic arity) (All Width) (length w) (λ a b u few h k. next_width a b u h k) (first ∷ []) clauses w (omega arith) (All-cons Width first [] (clause_width first v f) (All-nil Width)) g
-  clauses_width clauses ts (inr (is, none)) = rw is (All-nil Width)
+abbrev HasMembers : List ℕ → Type 0
+HasMembers set = set ≢ []
 
-  clauses_few : (clauses : List (List (List ℕ))) (ts : List Spelled) → Clauses n logic arity clauses ts → length clauses ≤ 1 + length ts
-  clauses_few clauses ts (inl (first, v, w, f, g, split)) =
-      let count : length clauses ≤ length (first ∷ []) + length w = growing_counts (NextClause n logic arity) length step (first ∷ []) clauses w g in
-      omega (arith, ap length split, length-append v w)
+module _ (n : ℕ) (logic : Logic) (named : length logic.names ≡ n) where
+  all_grows : (all new : List (List ℕ)) (ts : List Spelled) → All HasMembers all → NextAll n logic all new ts → All HasMembers new
+  all_grows all new ts h (comma, v, w, o, (set, is, (word, v1, w1, o1, f, s1)), s) = subst (All HasMembers) (sym is) (All-push HasMembers all set h (set_some n logic named set w1 f))
+
+  all_counts : (all new : List (List ℕ)) (ts : List Spelled) → NextAll n logic all new ts → length new ≤ length all + length ts
+  all_counts all new ts (comma, v, w, (test, o), (set, is, f), s) = omega (arith, ap length is, length-append all (set ∷ []), ap length s, length-append v w, ap length o)
+
+  -- the `some` set, and `all` sets with members that are no more than the tokens
+  abbrev HasSets : List Spelled → List (List ℕ) → Type 0
+  HasSets ts sets = (0 < length sets) × All HasMembers (drop 1 sets) × (length sets ≤ length ts + 1)
+
+  all_sets_fit : (sets : List (List ℕ)) (ts : List Spelled) → AllSets n logic sets ts → HasSets ts sets
+  all_sets_fit sets ts (set, v, w, (word, v1, w1, (test, o), f, s1), (all, v2, w2, g, rest, s2), s) =
+      by rest
     where
-      step : (a b : List (List (List ℕ))) (u : List Spelled) → NextClause n logic arity a b u → length b ≤ length a + length u
-      step a b u (semicolon, v1, w1, (test, one), (clause, is, h), s) = omega (arith, ap length is, length-append a (clause ∷ []), ap length s, length-append v1 w1, ap length one)
-  clauses_few clauses ts (inr (is, none)) = omega (arith, ap length is)
+      first : All HasMembers (set ∷ [])
+      first = All-cons HasMembers set [] (set_some n logic named set w1 f) (All-nil HasMembers)
+
+      members : All HasMembers all
+      members = growing_keeps (NextAll n logic) (All HasMembers) (length v2) (λ a b u few h k. all_grows a b u h k) (set ∷ []) all v2 (omega arith) first g
+
+      few : length all ≤ length ts
+      few =
+          let count : length all ≤ length (set ∷ []) + length v2 = growing_counts (NextAll n logic) length all_counts (set ∷ []) all v2 g in
+          omega (arith, ap length s, length-append v w, ap length s1, length-append v1 w1, ap length o, ap length s2, length-append v2 w2)
+
+      by : Optional ([] ∷ all) (LastSome n logic all) sets w2 → HasSets ts sets
+      by (inl (comma, v3, w3, o3, (some, is, h), s3)) = rw is (omega arith, members, omega (arith, few))
+      by (inr (is, none)) = rw is (omega arith, members, omega (arith, few))
+
+  clause_fits : (sets : List (List ℕ)) (ts : List Spelled) → QuantifierClause n logic sets ts → HasSets ts sets
+  clause_fits sets ts (inl (zero, is, one)) = rw is (omega arith, All-nil HasMembers, omega arith)
+  clause_fits sets ts (inr (inl h)) = all_sets_fit sets ts h
+  clause_fits sets ts (inr (inr (some, is, f))) = rw is (omega arith, All-nil HasMembers, omega arith)
+
+-- ---- lists of clauses
+
+-- what holds of each clause, which has no more tokens than all
+module _ (L : Grammar Spelled (List (List ℕ))) (Q : List (List ℕ) → Type 0) (most : ℕ) (each : (sets : List (List ℕ)) (ts : List Spelled) → length ts ≤ most → L sets ts → Q sets) where
+  next_keeps : (clauses new : List (List (List ℕ))) (ts : List Spelled) → length ts ≤ most → All Q clauses → NextClause L clauses new ts → All Q new
+  next_keeps clauses new ts few all (semicolon, v, w, o, (clause, is, f), s) = subst (All Q) (sym is) (All-push Q clauses clause all (each clause w (omega (arith, ap length s, length-append v w)) f))
+
+  clauses_keep : (clauses : List (List (List ℕ))) (ts : List Spelled) → length ts ≤ most → Clauses L clauses ts → All Q clauses
+  clauses_keep clauses ts few (inl (first, v, w, f, g, split)) =
+      let short : length v ≤ most = omega (arith, ap length split, length-append v w) in
+      let others : length w ≤ most = omega (arith, ap length split, length-append v w) in
+      growing_keeps (NextClause L) (All Q) most next_keeps (first ∷ []) clauses w others (All-cons Q first [] (each first v short f) (All-nil Q)) g
+  clauses_keep clauses ts few (inr (is, none)) = rw is (All-nil Q)
+
+clauses_few : (L : Grammar Spelled (List (List ℕ))) (clauses : List (List (List ℕ))) (ts : List Spelled) → Clauses L clauses ts → length clauses ≤ 1 + length ts
+clauses_few L clauses ts (inl (first, v, w, f, g, split)) =
+    let count : length clauses ≤ length (first ∷ []) + length w = growing_counts (NextClause L) length step (first ∷ []) clauses w g in
+    omega (arith, ap length split, length-append v w)
+  where
+    step : (a b : List (List (List ℕ))) (u : List Spelled) → NextClause L a b u → length b ≤ length a + length u
+    step a b u (semicolon, v1, w1, (test, one), (clause, is, h), s) = omega (arith, ap length is, length-append a (clause ∷ []), ap length s, length-append v1 w1, ap length one)
+clauses_few L clauses ts (inr (is, none)) = omega (arith, ap length is)
 
 -- ---- rules
 
-pub rule_fits : (n : ℕ) (logic : Logic) (least most : ℕ) (x : Numbered n) (ts : List Spelled) → OneRule n logic least most x ts → RuleFits logic (any_rule x.rule) × (length (clauses_of (any_rule x.rule)) ≤ length ts)
-rule_fits n logic least most x ts (t1, v1, w1, o1, (number, v2, w2, f2, (t3, v3, w3, o3, (op, v4, w4, f4, (t5, v5, w5, o5, (sign, v6, w6, f6, (t7, v7, w7, o7, (t8, v8, w8, o8, (clauses, v9, w9, f9, (t10, v10, w10, o10, (t11, v11, w11, o11, (is, none), s11), s10), s9), s8), s7), s6), s5), s4), s3), s2), s1) =
-    let fit : Fits logic (record { op = op; sign = sign; clauses = clauses }) = record { operator = op_below logic op v4 f4; width = clauses_width n logic (operator_at logic op).arity clauses v9 f9 } in
-    let few = clauses_few n logic (operator_at logic op).arity clauses v9 f9 in
-    rw is (fit, omega (arith, ap length o1.1, ap length s1, length-append v1 w1, ap length s2, length-append v2 w2, ap length s3, length-append v3 w3, ap length s4, length-append v4 w4, ap length s5, length-append v5 w5, ap length s6, length-append v6 w6, ap length s7, length-append v7 w7, ap length s8, length-append v8 w8, ap length s9, length-append v9 w9))
+abbrev IsFew : List (List ℕ) → Type 0
+IsFew sets = length sets < 2 ^ 32
+
+-- clauses of one head
+abbrev AreFor : Logic → Head → List (List (List ℕ)) → Type 0
+AreFor logic head clauses = All (IsClauseOf logic head) clauses × All IsFew clauses × (length clauses < 2 ^ 32)
+
+abbrev IsFor : Logic → Head → List (List ℕ) → Type 0
+IsFor logic head sets = IsClauseOf logic head sets × IsFew sets
+
+are_for : (logic : Logic) (head : Head) (clauses : List (List (List ℕ))) → All (IsFor logic head) clauses → length clauses < 2 ^ 32 → AreFor logic head clauses
+are_for logic head clauses all few = (All-weaker (IsFor logic head) (IsClauseOf logic head) (λ sets h. h.0) clauses all, All-weaker (IsFor logic head) IsFew (λ sets h. h.1) clauses all, few)
+
+module _ (n : ℕ) (logic : Logic) (named : length logic.names ≡ n) where
+  body_for : (head : Head) (L : Grammar Spelled (List (List ℕ))) (rule_of : List ℕ → List (List (List ℕ)) → Rule n) (rule : Rule n) (ts : List Spelled) → length ts < 2 ^ 32 → ((sets : List (List ℕ)) (us : List Spelled) → length us ≤ length ts - 1 → L sets us → IsFor logic head sets) → Body n logic L rule_of rule ts → (sign : List ℕ) × (clauses : List (List (List ℕ))) × (rule ≡ rule_of sign clauses) × AreFor logic head clauses
+  body_for head L rule_of rule ts short each (t1, v1, w1, o1, (sign, v2, w2, f2, (t3, v3, w3, o3, (t4, v4, w4, o4, (clauses, v5, w5, f5, (t6, v6, w6, o6, (t7, v7, w7, o7, (is, none), s7), s6), s5), s4), s3), s2), s1) =
+      let inside : length v5 + 1 ≤ length ts = omega (arith, ap length o1.1, ap length s1, length-append v1 w1, ap length s2, length-append v2 w2, ap length s3, length-append v3 w3, ap length s4, length-append v4 w4, ap length s5, length-append v5 w5) in
+      let few = clauses_few L clauses v5 f5 in
+      (sign, clauses, is, are_for logic head clauses (clauses_keep L (IsFor logic head) (length ts - 1) each clauses v5 (omega arith) f5) (omega arith))
+
+  operator_for : (rule : Rule n) (ts : List Spelled) → length ts < 2 ^ 32 → OfOperator n logic rule ts → IsRuleFor n logic rule
+  operator_for rule ts short (op, v, w, f, g, s) =
+      let (below, small) = op_below logic op v f in
+      let behind : length w < 2 ^ 32 = omega (arith, ap length s, length-append v w) in
+      let (sign, clauses, is, (formed, sets, few)) = body_for (operator op) (Clause n logic (operator_at logic op).arity) _ rule w behind (λ sets us _ h. let wide = clause_width n logic (operator_at logic op).arity sets us h in (wide, omega arith)) g in
+      rw is (record { fits = record { known = below; formed = formed }; numbered = record { clauses = few; sets = sets } })
+
+  quantifier_for : (rule : Rule n) (ts : List Spelled) → length ts < 2 ^ 32 → OfQuantifier n logic rule ts → IsRuleFor n logic rule
+  quantifier_for rule ts short (quant, v, w, f, g, s) =
+      let below = quant_below logic quant v f in
+      let behind : length w < 2 ^ 32 = omega (arith, ap length s, length-append v w) in
+      let (sign, clauses, is, (formed, sets, few)) = body_for (quantifier quant) (QuantifierClause n logic) _ rule w behind (λ sets us inside h. let (some, all, count) = clause_fits n logic named sets us h in ((some, all), omega arith)) g in
+      rw is (record { fits = record { known = below; formed = formed }; numbered = record { clauses = few; sets = sets } })
+
+  pub rule_fits : (least most : ℕ) (x : Numbered n) (ts : List Spelled) → length ts < 2 ^ 32 → OneRule n logic least most x ts → IsRuleFor n logic x.rule
+  rule_fits least most x ts short (t1, v1, w1, o1, (number, v2, w2, f2, (t3, v3, w3, o3, (rule, v4, w4, f4, (is, none), s4), s3), s2), s1) =
+      let inside : length v4 < 2 ^ 32 = omega (arith, ap length s1, length-append v1 w1, ap length s2, length-append v2 w2, ap length s3, length-append v3 w3, ap length s4, length-append v4 w4) in
+      rw is (by inside f4)
+    where
+      by : length v4 < 2 ^ 32 → OfOperator n logic rule v4 ⊎ OfQuantifier n logic rule v4 → IsRuleFor n logic rule
+      by inside (inl h) = operator_for rule v4 inside h
+      by inside (inr h) = quantifier_for rule v4 inside h

@@ -1,5 +1,6 @@
 pub mod Rights
 pub mod Growings
+pub mod Endings
 pub mod NumberLaws
 pub mod Tables
 pub mod RuleReads

@@ -7,8 +7,10 @@ use Rattle.lgc_grammar.proofs.Readers.{Reads, Must}
 use Rattle.lgc_rules.specs.declared.fault.Stop.{Stop}
 use Rattle.lgc_rules.specs.declared.fault.Stop.TheVariants as stop
 use Rattle.lgc_rules.specs.Spelled.{Spelled, spelled_all}
-use Rattle.lgc_rules.specs.Words.{growing_at}
+use Rattle.lgc_rules.specs.Words.{Turn, onward, last, growing_at, ending_at}
 use Rattle.lgc_rules.specs.Gives.{Fails}
+use Rattle.lgc_grammar.proofs.Repetitions.{reads_shrink}
+use Rattle.lgc_rules.proofs.Endings.{ending_ends, ending_fails, ending_closes, ending_goes}
 use Rattle.lgc_rules.proofs.Growings.{shrinks, growing_ends, growing_fails, growing_goes}
 
 pub fails_through : {Y Z : Type 0} (bytes : List ℕ) (e : Stop) (r : Result Y (List Spelled × Why)) (s : Result Z (List Spelled × Why)) → ((d : List Spelled × Why) → r ≡ Err d → s ≡ Err d) → Fails bytes e r → Fails bytes e s
@@ -28,6 +30,24 @@ module _ {A : Type 0} {first : Spelled → Bool} {p : A → Reader Spelled A} {L
   -- no phrase begins
   pub growth_ends : false ≡ next_is first ts → growing_at first p a ts ≡ total → total ≡ Ok (a, ts)
   growth_ends h so_far = sym so_far ∙ growing_ends first p a ts (sym h)
+
+-- the same for a repetition that a phrase of another kind may end
+module _ {A C : Type 0} {first : Spelled → Bool} {p : A → Reader Spelled (Turn A C)} {L : A → Grammar Spelled (Turn A C)} {P : Language Spelled} {go : Spelled → Bool} (reads : (a : A) → Reads (p a) (L a) P (Must first) go) (finish : A → C) (total : Result (C × List Spelled) (List Spelled × Why)) (a : A) (ts : List Spelled) where
+  -- one more phrase
+  pub goes_on : (b : A) (rest : List Spelled) → true ≡ next_is first ts → p a ts ≡ Ok (onward b, rest) → ending_at first p finish a ts ≡ total → ending_at first p finish b rest ≡ total
+  goes_on b rest h e so_far = sym (ending_goes first p finish (λ d. reads_shrink (reads d)) a ts b rest (sym h) e) ∙ so_far
+
+  -- the last phrase
+  pub closes : (c : C) (rest : List Spelled) → true ≡ next_is first ts → p a ts ≡ Ok (last c, rest) → ending_at first p finish a ts ≡ total → total ≡ Ok (c, rest)
+  closes c rest h e so_far = sym so_far ∙ ending_closes first p finish a ts c rest (sym h) e
+
+  -- a phrase begins, and stops
+  pub going_fails : (bytes : List ℕ) (e : Stop) → true ≡ next_is first ts → Fails bytes e (p a ts) → ending_at first p finish a ts ≡ total → Fails bytes e total
+  going_fails bytes e h f so_far = fails_through bytes e (p a ts) total (λ d g. sym so_far ∙ ending_fails first p finish a ts d (sym h) g) f
+
+  -- no phrase begins
+  pub going_ends : false ≡ next_is first ts → ending_at first p finish a ts ≡ total → total ≡ Ok (finish a, ts)
+  going_ends h so_far = sym so_far ∙ ending_ends first p finish a ts (sym h)
 
 -- what holds on success
 pub when_ok : {V E P : Type 0} (r : Result V E) (v : V) → r ≡ Ok v → OnOk r P → P

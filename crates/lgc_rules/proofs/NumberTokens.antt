@@ -1,17 +1,17 @@
 -- A token of the class of a number writes one.
-use Rattle.std.proofs.Common.{◌≡◌, ℕ, Bool, true, false, cond, List, None, refl, subst, arith}
+use Rattle.std.proofs.Common.{◌≡◌, ℕ, Bool, true, false, cond, List, None, refl, arith}
 use Rattle.std.specs.Prelude.{codes}
 use Rattle.std.specs.Str.{bytes_eq}
 use Rattle.lgc_grammar.proofs.Readers.{or_right}
 use Rattle.lgc_lexer.specs.declared.token.Kind.{Kind}
 use Rattle.lgc_lexer.specs.declared.token.Kind.TheVariants as kind
 use Rattle.lgc_rules.specs.declared.class.Class.{Class}
-use Rattle.lgc_rules.specs.declared.class.Class.TheVariants.{Zero, Number, Caret, Symbol}
+use Rattle.lgc_rules.specs.declared.class.Class.TheVariants.{Zero, Caret, Symbol}
 use Rattle.lgc_rules.specs.declared.terminal.Terminal.{Terminal}
 use Rattle.lgc_rules.specs.declared.terminal.Terminal.TheVariants as terminal
 use Rattle.lgc_rules.specs.Numbers.{number_in}
 use Rattle.lgc_rules.specs.Spelled.{Spelled}
-use Rattle.lgc_rules.specs.Classes.{same, numbers, class_in, class_of, class_of_word, class_of_punct, is_a, AsksForNumber}
+use Rattle.lgc_rules.specs.Classes.{same, arguments, numbers, class_in, class_of, class_of_word, class_of_punct, is_a, AsksForNumber}
 
 choose : (b : Bool) (c d : Class) → numbers c ≡ false → numbers d ≡ false → numbers (cond b c d) ≡ false
 choose true c d h g = h
@@ -35,15 +35,17 @@ none_in kind.Text text caret e = refl
 none_in kind.Symbol text caret e = choose (bytes_eq text (codes "^")) Caret Symbol refl refl
 none_in kind.Punct text caret e = punct_is_none text
 
-no_number : (t : Spelled) → number_in t.text ≡ None → numbers (class_of t) ≡ false
+pub no_number : (t : Spelled) → number_in t.text ≡ None → numbers (class_of t) ≡ false
 unfolding class_of
 no_number t e = none_in t.token.kind t.text t.before_caret e
 
 pub asked_number : (a : Terminal) (t : Spelled) → AsksForNumber a → is_a a t ≡ true → number_in t.text ≡ None → ⊥
 asked_number terminal.Number t h is e = let none = no_number t e in cc
-asked_number (terminal.Only c) t h is e =
-    let number : same Number (class_of t) ≡ true = subst (λ (d : Class). same d (class_of t) ≡ true) h is in
-    let none = or_right (same Zero (class_of t)) (same Number (class_of t)) (no_number t e) in
+asked_number terminal.Argument t h is e =
+    let none = or_right (same Zero (class_of t)) (arguments (class_of t)) (no_number t e) in
     cc
+asked_number (terminal.Only c) t h is e = h
 asked_number terminal.Name t h is e = h
+asked_number terminal.Zero t h is e = h
+asked_number terminal.QuantifierClause t h is e = h
 asked_number terminal.Value t h is e = h

@@ -9,7 +9,7 @@ use Rattle.lgc_grammar.proofs.Classes.{IsTable, entry, all_pass, apart}
 use Rattle.lgc_lexer.specs.declared.token.Kind.{Kind}
 use Rattle.lgc_lexer.specs.declared.token.Kind.TheVariants as kind
 use Rattle.lgc_rules.specs.declared.class.Class.{Class}
-use Rattle.lgc_rules.specs.declared.class.Class.TheVariants.{RuleWord, AtWord, OperatorWord, QuantifierWord, Lower, Upper, Zero, Number, Digits, Quoted, Text, Caret, Symbol, OpenBrace, CloseBrace, OpenSquare, CloseSquare, Comma, Dot, Colon, Semicolon, Slash, Punct}
+use Rattle.lgc_rules.specs.declared.class.Class.TheVariants.{RuleWord, AtWord, OperatorWord, QuantifierWord, AllWord, SomeWord, Lower, Upper, Zero, CaretZero, Number, Digits, Quoted, Text, Caret, Symbol, OpenBrace, CloseBrace, OpenSquare, CloseSquare, Comma, Dot, Colon, Semicolon, Slash, Punct}
 use Rattle.lgc_rules.specs.declared.terminal.Terminal.{Terminal}
 use Rattle.lgc_rules.specs.declared.terminal.Terminal.TheVariants as terminal
 use Rattle.lgc_rules.specs.Words.{Right, right_at}
@@ -38,9 +38,12 @@ token RuleWord = spelt kind.Lower (codes "rule")
 token AtWord = spelt kind.Lower (codes "at")
 token OperatorWord = spelt kind.Lower (codes "operator")
 token QuantifierWord = spelt kind.Lower (codes "quantifier")
+token AllWord = spelt kind.Lower (codes "all")
+token SomeWord = spelt kind.Lower (codes "some")
 token Lower = spelt kind.Lower (codes "x")
 token Upper = spelt kind.Upper (codes "X")
 token Zero = spelt kind.Digits (codes "0")
+token CaretZero = record (spelt kind.Digits (codes "0")) { before_caret = true }
 token Number = spelt kind.Digits (codes "1")
 token Digits = spelt kind.Digits (codes "1x")
 token Quoted = spelt kind.Quoted (codes "x")
@@ -68,6 +71,9 @@ abbrev sample : Terminal → Class
 sample (terminal.Only c) = c
 sample terminal.Name = Lower
 sample terminal.Number = Number
+sample terminal.Argument = Number
+sample terminal.Zero = Zero
+sample terminal.QuantifierClause = AllWord
 sample terminal.Value = Lower
 
 sample_passes : (t : Terminal) → passes t (sample t) ≡ true
@@ -89,3 +95,7 @@ one c = one_reads (is c) (token c) (some_passes (terminal.Only c))
 -- one token of a terminal that has to keep a rule
 pub right : (t : Terminal) (breaks : Spelled → Bool) (n : ℕ) → Reads (right_at (is_a t) breaks n) (Right (is_a t) breaks) (PlainOne (is_a t)) (Must (is_a t)) never
 right t breaks n = right_reads (is_a t) breaks n (token (sample t)) (some_passes t)
+
+-- one token of a terminal
+pub any : (t : Terminal) → Reads (one_at (is_a t)) (One (is_a t)) (PlainOne (is_a t)) (Must (is_a t)) never
+any t = one_reads (is_a t) (token (sample t)) (some_passes t)

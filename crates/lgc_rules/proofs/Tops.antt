@@ -93,19 +93,18 @@ module _ (n : ℕ) (logic : Logic) (bytes : List ℕ) where
       by false e g = lexed_is (ltb-false LONGEST_FILE (length bytes) e) (tokens_of bytes) rules refl g
 
   -- each rule of the grammar is one for the logic
-  rules_fit : (ts : List Spelled) (rules : List (Rule n)) → length ts ≤ LONGEST_FILE → Rules n logic rules ts → All (IsRuleFor n logic) rules
-  rules_fit ts rules few h = growing_keeps (NextRule n logic) (All (IsRuleFor n logic)) LONGEST_FILE step [] rules ts few (All-nil (IsRuleFor n logic)) h
+  rules_fit : length logic.names ≡ n → (ts : List Spelled) (rules : List (Rule n)) → length ts ≤ LONGEST_FILE → Rules n logic rules ts → All (IsRuleFor n logic) rules
+  rules_fit named ts rules few h = growing_keeps (NextRule n logic) (All (IsRuleFor n logic)) LONGEST_FILE step [] rules ts few (All-nil (IsRuleFor n logic)) h
     where
       step : (a b : List (Rule n)) (v : List Spelled) → length v ≤ LONGEST_FILE → All (IsRuleFor n logic) a → NextRule n logic a b v → All (IsRuleFor n logic) b
       step a b v short all (next, is, f) =
-          let (fits, few) = rule_fits n logic (length a + 1) (length a + 1) next v f in
-          subst (All (IsRuleFor n logic)) (sym is) (All-push (IsRuleFor n logic) a next.rule all (record { fits = fits; few = omega arith }))
+          subst (All (IsRuleFor n logic)) (sym is) (All-push (IsRuleFor n logic) a next.rule all (rule_fits n logic named (length a + 1) (length a + 1) next v (omega arith) f))
 
-  pub file_fits : (result : Result (List (Rule n)) InputFault) → Tells (λ rules. rules) result (file_read n logic bytes) → IfOk result (λ rules. All (IsRuleFor n logic) rules)
-  file_fits (Ok rules) told =
+  pub file_fits : length logic.names ≡ n → (result : Result (List (Rule n)) InputFault) → Tells (λ rules. rules) result (file_read n logic bytes) → IfOk result (λ rules. All (IsRuleFor n logic) rules)
+  file_fits named (Ok rules) told =
       let h = file_of rules (file_answer (Ok rules) told) in
-      rules_fit (spelled_all bytes h.tokens) rules (omega (arith, h.short, length-spelled bytes h.tokens, few_tokens bytes h.tokens h.lexed)) h.derived
-  file_fits (Err e) told = tt
+      rules_fit named (spelled_all bytes h.tokens) rules (omega (arith, h.short, length-spelled bytes h.tokens, few_tokens bytes h.tokens h.lexed)) h.derived
+  file_fits named (Err e) told = tt
 
 -- ---- single rules
 
@@ -156,13 +155,13 @@ module _ (n : ℕ) (logic : Logic) (end : ℕ) where
       by (Err fault.Memory) told = tt
       by (Err (fault.Fault number offset)) told = let same = sym told ∙ whole_read in absurd cc
 
-  pub rule_for : (bytes : List ℕ) (tokens : List Token) (at : ℕ) (result : Result (Numbered n × ℕ) InputFault) → length bytes < 2 ^ 32 → tokens_of bytes ≡ Ok tokens → Tells (λ x. (x.0, drop x.1 (spelled_all bytes tokens))) result (rule_read n logic end (drop at (spelled_all bytes tokens))) → IfOk result (λ x. IsRuleFor n logic x.0.rule)
-  rule_for bytes tokens at (Ok x) short lexed told =
+  pub rule_for : length logic.names ≡ n → (bytes : List ℕ) (tokens : List Token) (at : ℕ) (result : Result (Numbered n × ℕ) InputFault) → length bytes < 2 ^ 32 → tokens_of bytes ≡ Ok tokens → Tells (λ x. (x.0, drop x.1 (spelled_all bytes tokens))) result (rule_read n logic end (drop at (spelled_all bytes tokens))) → IfOk result (λ x. IsRuleFor n logic x.0.rule)
+  rule_for named bytes tokens at (Ok x) short lexed told =
       let (front, split, h) = rule_phrase (drop at (spelled_all bytes tokens)) x.0 (drop x.1 (spelled_all bytes tokens)) told in
-      let (fits, few) = rule_fits n logic 0 MOST_NUMBER x.0 front h in
       let all : length (drop at (spelled_all bytes tokens)) ≤ length tokens = omega (arith, length-drop at (spelled_all bytes tokens), length-spelled bytes tokens) in
-      record { fits = fits; few = omega (arith, ap length split, length-append front (drop x.1 (spelled_all bytes tokens)), few_tokens bytes tokens lexed) }
-  rule_for bytes tokens at (Err e) short lexed told = tt
+      let inside : length front < 2 ^ 32 = omega (arith, ap length split, length-append front (drop x.1 (spelled_all bytes tokens)), few_tokens bytes tokens lexed) in
+      rule_fits n logic named 0 MOST_NUMBER x.0 front inside h
+  rule_for named bytes tokens at (Err e) short lexed told = tt
 
   -- the tokens that are left behind a rule, by how many they are
   pub rule_left : (bytes : List ℕ) (ts rest : List Token) (x : Numbered n) → rule_at n logic 0 MOST_NUMBER (spelled_all bytes ts) ≡ Ok (x, spelled_all bytes rest) → rule_read n logic end (spelled_all bytes ts) ≡ Ok (x, drop (length ts - length rest) (spelled_all bytes ts))

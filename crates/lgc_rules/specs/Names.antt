@@ -14,6 +14,10 @@ value_named logic text = position (λ name. bytes_eq name text) logic.names
 abbrev pub operator_named : Logic → List ℕ → Option ℕ
 operator_named logic text = position (λ o. bytes_eq o.name text) logic.operators
 
+-- the place of the quantifier that has this name
+abbrev pub quantifier_named : Logic → List ℕ → Option ℕ
+quantifier_named logic text = position (λ q. bytes_eq q.name text) logic.quantifiers
+
 -- the value that a token names
 abbrev pub value_of : Logic → Spelled → ℕ
 value_of logic t = unwrap_or (value_named logic t.text) 0
@@ -21,6 +25,10 @@ value_of logic t = unwrap_or (value_named logic t.text) 0
 -- the operator that a token names
 abbrev pub operator_of : Logic → Spelled → ℕ
 operator_of logic t = unwrap_or (operator_named logic t.text) 0
+
+-- the quantifier that a token names
+abbrev pub quantifier_of : Logic → Spelled → ℕ
+quantifier_of logic t = unwrap_or (quantifier_named logic t.text) 0
 
 -- the number that a token writes
 abbrev pub number : Spelled → ℕ
@@ -35,6 +43,10 @@ names_no_value logic t = is_none (value_named logic t.text)
 -- the token names no operator
 abbrev pub names_no_operator : Logic → Spelled → Bool
 names_no_operator logic t = is_none (operator_named logic t.text)
+
+-- the token names no quantifier
+abbrev pub names_no_quantifier : Logic → Spelled → Bool
+names_no_quantifier logic t = is_none (quantifier_named logic t.text)
 
 -- the number isn't one from `least` to `most`
 abbrev pub is_outside : ℕ → ℕ → Spelled → Bool

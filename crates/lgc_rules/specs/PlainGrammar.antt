@@ -1,14 +1,10 @@
 -- The plain language of rule files: the same lines, without trees, and whether or not their names and numbers are right. It
 -- doesn't depend on the logic. A token that breaks a rule is one with which this language goes on.
---
--- The name of a quantifier always breaks a rule, so what stands behind it counts for nothing; here it is what stands behind an
--- operator's head.
 use Rattle.lgc_grammar.specs.Grammar.{Language, PlainOne, PlainNothing, PlainThen, PlainEither, PlainOptional, PlainMany}
-use Rattle.lgc_rules.specs.declared.class.Class.TheVariants.{RuleWord, AtWord, OperatorWord, QuantifierWord, Zero, Caret, OpenBrace, CloseBrace, OpenSquare, CloseSquare, Comma, Dot, Colon, Semicolon, Slash}
+use Rattle.lgc_rules.specs.declared.class.Class.TheVariants.{RuleWord, AtWord, OperatorWord, QuantifierWord, AllWord, SomeWord, Zero, Caret, OpenBrace, CloseBrace, OpenSquare, CloseSquare, Comma, Dot, Colon, Semicolon, Slash}
 use Rattle.lgc_rules.specs.declared.class.Class.{Class}
-use Rattle.lgc_rules.specs.declared.class.Class.TheVariants as class
 use Rattle.lgc_rules.specs.Spelled.{Spelled}
-use Rattle.lgc_rules.specs.Classes.{is, is_name, is_number, is_value}
+use Rattle.lgc_rules.specs.Classes.{is, is_name, is_number, is_argument, is_zero, is_value}
 use Rattle.std.specs.Prelude.{Bool}
 
 -- a token of the class, and then a phrase
@@ -30,28 +26,54 @@ PlainLiteral test = PlainThen (PlainOne test) (Caret then PlainThen PlainSet Pla
 
 -- literal { "," literal }, where a 0 has a Symbol ^ behind it
 abbrev pub PlainLiterals : Language Spelled
-PlainLiterals = PlainThen (PlainLiteral (is class.Number)) (PlainMany (Comma then PlainLiteral is_number))
+PlainLiterals = PlainThen (PlainLiteral is_argument) (PlainMany (Comma then PlainLiteral is_number))
 
 -- clause = "0" | literal { "," literal }
 abbrev pub PlainClause : Language Spelled
 PlainClause = PlainEither (PlainOne (is Zero)) PlainLiterals
 
+-- "," "all" set
+abbrev pub PlainNextAll : Language Spelled
+PlainNextAll = Comma then AllWord then PlainSet
+
+-- "," "some" set
+abbrev pub PlainLastSome : Language Spelled
+PlainLastSome = Comma then SomeWord then PlainSet
+
+-- { "," "all" set } [ "," "some" set ]
+abbrev pub PlainMoreSets : Language Spelled
+PlainMoreSets = PlainThen (PlainMany PlainNextAll) (PlainOptional PlainLastSome)
+
+-- clause = "0" | "all" set { "," "all" set } [ "," "some" set ] | "some" set
+abbrev pub PlainQuantifierClause : Language Spelled
+PlainQuantifierClause =
+    PlainEither (PlainOne is_zero)
+    (PlainEither (PlainThen (AllWord then PlainSet) PlainMoreSets) (SomeWord then PlainSet))
+
 -- [ clause { ";" clause } ]
-abbrev pub PlainClauses : Language Spelled
-PlainClauses = PlainOptional (PlainThen PlainClause (PlainMany (Semicolon then PlainClause)))
+abbrev pub PlainClauses : Language Spelled → Language Spelled
+PlainClauses P = PlainOptional (PlainThen P (PlainMany (Semicolon then P)))
 
--- head = "operator" name "/" number | "quantifier" name
-abbrev pub PlainHead : Language Spelled
-PlainHead =
-    PlainEither (OperatorWord then PlainThen (PlainOne is_name) (Slash then PlainThen (PlainOne is_number) PlainNothing))
-    (QuantifierWord then PlainOne is_name)
+-- head = "operator" name "/" number
+abbrev pub PlainOperatorHead : Language Spelled
+PlainOperatorHead = OperatorWord then PlainThen (PlainOne is_name) (Slash then PlainThen (PlainOne is_number) PlainNothing)
 
--- rule = "rule" number ":" head "at" set ":" "[" [ clause { ";" clause } ] "]" "."
+-- head = "quantifier" name
+abbrev pub PlainQuantifierHead : Language Spelled
+PlainQuantifierHead = QuantifierWord then PlainOne is_name
+
+-- body = "at" set ":" "[" [ clause { ";" clause } ] "]" "."
+abbrev pub PlainBody : Language Spelled → Language Spelled
+PlainBody P =
+    AtWord then PlainThen PlainSet (Colon then OpenSquare then PlainThen (PlainClauses P)
+    (CloseSquare then Dot then PlainNothing))
+
+-- rule = "rule" number ":" ( "operator" name "/" number body | "quantifier" name body )
 abbrev pub PlainRule : Language Spelled
 PlainRule =
-    RuleWord then PlainThen (PlainOne is_number) (Colon then PlainThen PlainHead
-    (AtWord then PlainThen PlainSet (Colon then OpenSquare then PlainThen PlainClauses
-    (CloseSquare then Dot then PlainNothing))))
+    RuleWord then PlainThen (PlainOne is_number) (Colon then PlainThen
+    (PlainEither (PlainThen PlainOperatorHead (PlainBody PlainClause)) (PlainThen PlainQuantifierHead (PlainBody PlainQuantifierClause)))
+    PlainNothing)
 
 -- rules = { rule }
 abbrev pub PlainRules : Language Spelled

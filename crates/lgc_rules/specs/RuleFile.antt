@@ -1,5 +1,5 @@
 -- What the bytes of a rule file give: its rules, or its first fault.
-use Rattle.std.specs.Prelude.{◌≡◌, ◌<◌, ◌≤◌, ◌^◌, ℕ, nat_lt, Bool, true, false, List, length, Result, Ok, Err, if◌then◌else◌}
+use Rattle.std.specs.Prelude.{◌≡◌, ◌≤◌, ℕ, nat_lt, Bool, true, false, List, length, Result, Ok, Err, if◌then◌else◌}
 use Rattle.lgc_grammar.specs.Grammar.{Why, StopsAt}
 use Rattle.lgc_grammar.specs.Reading.{whole}
 use Rattle.lgc_lexer.specs.declared.token.Token.{Token}
@@ -8,7 +8,9 @@ use Rattle.lgc_lexer.specs.declared.fault.LexFault.TheVariants.{BadByte, OpenQuo
 use Rattle.lgc_lexer.specs.Tokens.{tokens_of}
 use Rattle.lgc_values.specs.Logic.{Logic}
 use Rattle.lgc_clauses.specs.declared.rule.Rule.{Rule}
-use Rattle.lgc_clauses.specs.Exactness.{any_rule, clauses_of, RuleFits}
+use Rattle.lgc_clauses.specs.Rules.{Fits}
+use Rattle.lgc_clauses.specs.Kinds.{plain_rule}
+use Rattle.lgc_clauses.specs.Irredundance.{IsNumbered}
 use Rattle.lgc_syntax.specs.declared.fault.InputFault.{InputFault}
 use Rattle.lgc_syntax.specs.declared.fault.InputFault.TheVariants as fault
 use Rattle.lgc_syntax.specs.declared.fault.TheConstants.{FILE_TOO_LONG, BAD_BYTE, OPEN_QUOTE}
@@ -19,10 +21,10 @@ use Rattle.lgc_rules.specs.PlainGrammar.{PlainRules}
 use Rattle.lgc_rules.specs.RuleReading.{rules_at}
 use Rattle.lgc_rules.specs.Gives.{fault_of, told_of}
 
--- a rule for the logic, with fewer than 2 ^ 32 clauses
+-- a rule for the logic, whose clauses and sets have numbers of 32 bits
 pub record IsRuleFor (n : ℕ) (logic : Logic) (rule : Rule n) : Type 0 where
-  pub fits : RuleFits logic (any_rule rule)
-  pub few : length (clauses_of (any_rule rule)) < 2 ^ 32
+  pub fits : Fits logic (plain_rule rule)
+  pub numbered : IsNumbered (plain_rule rule)
 
 -- ---- as a relation
 

@@ -1,20 +1,30 @@
 -- The grammar of rule files for a logic of n truth values, line by line. Its phrases keep every rule, and its trees are those
--- of the code. The clauses of a quantifier aren't here, since no logic has a quantifier yet.
+-- of the code.
 --
--- A rule file is read against a logic: an operator is one of the logic and has its arity, a value is a truth value, the
--- numbers of a clause's arguments rise, and the k-th rule has the number k.
-use Rattle.std.specs.Prelude.{ℕ, ◌+◌, ◌-◌, Bool, true, List, [], ◌∷◌, ◌++◌, length}
+-- A rule file is read against a logic: an operator is one of the logic and has its arity, a quantifier is one of the logic, a
+-- value is a truth value, the numbers of a clause's arguments rise, and the k-th rule has the number k.
+use Rattle.std.specs.Prelude.{ℕ, ◌+◌, ◌-◌, Bool, List, [], ◌∷◌, ◌++◌, length}
 use Rattle.lgc_grammar.specs.Grammar.{Grammar, One, Nothing, Mapped, ◌>>=◌, ◌>>◌, Either, Optional}
 use Rattle.lgc_values.specs.Logic.{Logic, operator_at}
 use Rattle.lgc_clauses.specs.declared.rule.Rule.{Rule}
 use Rattle.lgc_clauses.specs.declared.rule.Rule.TheVariants as rule
 use Rattle.lgc_rules.specs.declared.rule.Numbered.{Numbered}
-use Rattle.lgc_rules.specs.declared.class.Class.TheVariants.{RuleWord, AtWord, OperatorWord, QuantifierWord, Zero, Caret, OpenBrace, CloseBrace, OpenSquare, CloseSquare, Comma, Dot, Colon, Semicolon, Slash}
-use Rattle.lgc_rules.specs.declared.class.Class.TheVariants as class
+use Rattle.lgc_rules.specs.declared.class.Class.TheVariants.{RuleWord, AtWord, OperatorWord, QuantifierWord, AllWord, SomeWord, Zero, Caret, OpenBrace, CloseBrace, OpenSquare, CloseSquare, Comma, Dot, Colon, Semicolon, Slash}
+use Rattle.lgc_rules.specs.declared.class.Class.{Class}
 use Rattle.lgc_rules.specs.Words.{Right, Growing}
 use Rattle.lgc_rules.specs.Spelled.{Spelled}
-use Rattle.lgc_rules.specs.Classes.{is, is_name, is_number, is_value}
-use Rattle.lgc_rules.specs.Names.{value_of, operator_of, number, names_no_value, names_no_operator, is_outside, with_value, padded}
+use Rattle.lgc_rules.specs.Classes.{is, is_name, is_number, is_argument, is_zero, is_value}
+use Rattle.lgc_rules.specs.Names.{value_of, operator_of, quantifier_of, number, names_no_value, names_no_operator, names_no_quantifier, is_outside, with_value, padded}
+
+-- ---- trees of rules
+
+abbrev pub operator_rule : (n : ℕ) → ℕ → List ℕ → List (List (List ℕ)) → Rule n
+operator_rule n op sign clauses = rule.Operator (record { op = op; sign = sign; clauses = clauses })
+
+abbrev pub quantifier_rule : (n : ℕ) → ℕ → List ℕ → List (List (List ℕ)) → Rule n
+quantifier_rule n quant sign clauses = rule.Quantifier (record { quant = quant; sign = sign; clauses = clauses })
+
+-- ---- numbers
 
 -- a number from `least` to `most`
 abbrev pub NumberFrom : ℕ → ℕ → (Spelled → Bool) → Grammar Spelled ℕ
@@ -42,7 +52,7 @@ Set n logic = do
   One (is CloseBrace)
   Nothing set
 
--- ---- clauses for an operator, each with a set for each argument
+-- ---- clauses of an operator, each with a set for each argument
 
 -- literal = number Symbol "^" set, for an argument behind those that have their sets, which are these
 abbrev pub Literal : ℕ → Logic → ℕ → (Spelled → Bool) → List (List ℕ) → Grammar Spelled (List (List ℕ))
@@ -61,7 +71,7 @@ NextLiteral n logic arity sets = do
 -- literal { "," literal }, where arguments that aren't written have the empty set
 abbrev pub Literals : ℕ → Logic → ℕ → Grammar Spelled (List (List ℕ))
 Literals n logic arity = Mapped (padded arity) (do
-  sets ← Literal n logic arity (is class.Number) []
+  sets ← Literal n logic arity is_argument []
   Growing (NextLiteral n logic arity) sets)
 
 -- "0", which no Symbol ^ is behind
@@ -72,17 +82,63 @@ EmptyClause arity = Mapped (λ _. padded arity []) (One (is Zero))
 abbrev pub Clause : ℕ → Logic → ℕ → Grammar Spelled (List (List ℕ))
 Clause n logic arity = Either (EmptyClause arity) (Literals n logic arity)
 
+-- ---- clauses of a quantifier, each with its `some` set and then its `all` sets
+
+-- "all" set, or "some" set
+abbrev pub SetBehind : Class → ℕ → Logic → Grammar Spelled (List ℕ)
+SetBehind word n logic = do
+  One (is word)
+  Set n logic
+
+-- "," "all" set, behind the `all` sets before it
+abbrev pub NextAll : ℕ → Logic → List (List ℕ) → Grammar Spelled (List (List ℕ))
+NextAll n logic all = do
+  One (is Comma)
+  Mapped (λ set. all ++ set ∷ []) (SetBehind AllWord n logic)
+
+-- "," "some" set, behind the `all` sets
+abbrev pub LastSome : ℕ → Logic → List (List ℕ) → Grammar Spelled (List (List ℕ))
+LastSome n logic all = do
+  One (is Comma)
+  Mapped (λ some. some ∷ all) (SetBehind SomeWord n logic)
+
+-- { "," "all" set } [ "," "some" set ], behind `all` sets; a `some` set that isn't written is empty
+abbrev pub MoreSets : ℕ → Logic → List (List ℕ) → Grammar Spelled (List (List ℕ))
+MoreSets n logic before = do
+  all ← Growing (NextAll n logic) before
+  Optional ([] ∷ all) (LastSome n logic all)
+
+-- "all" set { "," "all" set } [ "," "some" set ]
+abbrev pub AllSets : ℕ → Logic → Grammar Spelled (List (List ℕ))
+AllSets n logic = do
+  set ← SetBehind AllWord n logic
+  MoreSets n logic (set ∷ [])
+
+-- "some" set
+abbrev pub SomeAlone : ℕ → Logic → Grammar Spelled (List (List ℕ))
+SomeAlone n logic = Mapped (λ some. some ∷ []) (SetBehind SomeWord n logic)
+
+-- "0", whatever is behind it
+abbrev pub NoSets : Grammar Spelled (List (List ℕ))
+NoSets = Mapped (λ _. [] ∷ []) (One is_zero)
+
+-- clause = "0" | "all" set { "," "all" set } [ "," "some" set ] | "some" set
+abbrev pub QuantifierClause : ℕ → Logic → Grammar Spelled (List (List ℕ))
+QuantifierClause n logic = Either NoSets (Either (AllSets n logic) (SomeAlone n logic))
+
+-- ---- lists of clauses, of one grammar
+
 -- ";" clause, behind the clauses before it
-abbrev pub NextClause : ℕ → Logic → ℕ → List (List (List ℕ)) → Grammar Spelled (List (List (List ℕ)))
-NextClause n logic arity clauses = do
+abbrev pub NextClause : Grammar Spelled (List (List ℕ)) → List (List (List ℕ)) → Grammar Spelled (List (List (List ℕ)))
+NextClause L clauses = do
   One (is Semicolon)
-  Mapped (λ clause. clauses ++ clause ∷ []) (Clause n logic arity)
+  Mapped (λ clause. clauses ++ clause ∷ []) L
 
 -- [ clause { ";" clause } ]
-abbrev pub Clauses : ℕ → Logic → ℕ → Grammar Spelled (List (List (List ℕ)))
-Clauses n logic arity = Optional [] (do
-  clause ← Clause n logic arity
-  Growing (NextClause n logic arity) (clause ∷ []))
+abbrev pub Clauses : Grammar Spelled (List (List ℕ)) → Grammar Spelled (List (List (List ℕ)))
+Clauses L = Optional [] (do
+  clause ← L
+  Growing (NextClause L) (clause ∷ []))
 
 -- ---- rules
 
@@ -95,31 +151,44 @@ OperatorHead logic = do
   NumberFrom (operator_at logic op).arity (operator_at logic op).arity is_number
   Nothing op
 
--- "quantifier" name, the name of a quantifier, of which there are none
-abbrev pub QuantifierHead : Grammar Spelled ℕ
-QuantifierHead = do
+-- "quantifier" name, the name of a quantifier
+abbrev pub QuantifierHead : Logic → Grammar Spelled ℕ
+QuantifierHead logic = do
   One (is QuantifierWord)
-  Mapped (λ _. 0) (Right is_name (λ _. true))
+  Mapped (quantifier_of logic) (Right is_name (names_no_quantifier logic))
 
--- head = "operator" name "/" number | "quantifier" name
-abbrev pub Head : Logic → Grammar Spelled ℕ
-Head logic = Either (OperatorHead logic) QuantifierHead
+-- body = "at" set ":" "[" [ clause { ";" clause } ] "]" "."
+abbrev pub Body : (n : ℕ) → Logic → Grammar Spelled (List (List ℕ)) → (List ℕ → List (List (List ℕ)) → Rule n) → Grammar Spelled (Rule n)
+Body n logic L rule_of = do
+  One (is AtWord)
+  sign ← Set n logic
+  One (is Colon)
+  One (is OpenSquare)
+  clauses ← Clauses L
+  One (is CloseSquare)
+  One (is Dot)
+  Nothing (rule_of sign clauses)
 
--- rule = "rule" number ":" head "at" set ":" "[" [ clause { ";" clause } ] "]" ".", with a number from `least` to `most`
+-- "operator" name "/" number body, with clauses of the operator
+abbrev pub OfOperator : (n : ℕ) → Logic → Grammar Spelled (Rule n)
+OfOperator n logic = do
+  op ← OperatorHead logic
+  Body n logic (Clause n logic (operator_at logic op).arity) (operator_rule n op)
+
+-- "quantifier" name body, with clauses of a quantifier
+abbrev pub OfQuantifier : (n : ℕ) → Logic → Grammar Spelled (Rule n)
+OfQuantifier n logic = do
+  quant ← QuantifierHead logic
+  Body n logic (QuantifierClause n logic) (quantifier_rule n quant)
+
+-- rule = "rule" number ":" ( "operator" name "/" number body | "quantifier" name body ), with a number from `least` to `most`
 abbrev pub OneRule : (n : ℕ) → Logic → ℕ → ℕ → Grammar Spelled (Numbered n)
 OneRule n logic least most = do
   One (is RuleWord)
   number ← NumberFrom least most is_number
   One (is Colon)
-  op ← Head logic
-  One (is AtWord)
-  sign ← Set n logic
-  One (is Colon)
-  One (is OpenSquare)
-  clauses ← Clauses n logic (operator_at logic op).arity
-  One (is CloseSquare)
-  One (is Dot)
-  Nothing (record { number = number; rule = rule.Operator (record { op = op; sign = sign; clauses = clauses }) })
+  rule ← Either (OfOperator n logic) (OfQuantifier n logic)
+  Nothing (record { number = number; rule = rule })
 
 -- the next rule, whose number is its place, behind the rules before it
 abbrev pub NextRule : (n : ℕ) → Logic → List (Rule n) → Grammar Spelled (List (Rule n))

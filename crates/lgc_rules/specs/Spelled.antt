@@ -7,8 +7,8 @@ use Rattle.lgc_lexer.specs.declared.token.Token.{Token}
 use Rattle.lgc_lexer.specs.Spans.{content_of, AllIn}
 
 -- A token, its content, and whether a Symbol ^ is the token behind it. A grammar speaks of these, since a text that goes on in
--- another way has other bytes. What is behind a token counts at one place: a 0 that begins a clause is a literal's number where
--- a ^ is behind it, and else the clause without literals. There the grammar asks for what the token says.
+-- another way has other bytes. What is behind a token counts at one place: a 0 that begins a clause of an operator is a
+-- literal's number where a ^ is behind it, and else the clause without literals. There the grammar asks for what the token says.
 pub record Spelled : Type 0 where
   pub token : Token
   pub text : List ℕ

@@ -14,11 +14,15 @@ pub(crate) enum Class {
     AtWord,
     OperatorWord,
     QuantifierWord,
+    AllWord,
+    SomeWord,
     /// A Lower that is no keyword.
     Lower,
     Upper,
     /// The number 0 without a Symbol `^` behind it.
     Zero,
+    /// The number 0 with a Symbol `^` behind it.
+    CaretZero,
     /// Another number.
     Number,
     /// A Digits that is no number.
@@ -54,7 +58,13 @@ pub(crate) fn is_lower(class: Class) -> bool
 {
     matches!(
         class,
-        Class::RuleWord | Class::AtWord | Class::OperatorWord | Class::QuantifierWord | Class::Lower
+        Class::RuleWord
+            | Class::AtWord
+            | Class::OperatorWord
+            | Class::QuantifierWord
+            | Class::AllWord
+            | Class::SomeWord
+            | Class::Lower
     )
 }
 
@@ -70,6 +80,10 @@ fn class_of_word(text: &[u8]) -> Class
         Class::OperatorWord
     } else if text == b"quantifier".as_slice() {
         Class::QuantifierWord
+    } else if text == b"all".as_slice() {
+        Class::AllWord
+    } else if text == b"some".as_slice() {
+        Class::SomeWord
     } else {
         Class::Lower
     }
@@ -80,13 +94,9 @@ fn class_of_digits(number: Option<u32>, before_caret: bool) -> Class
 {
     match number {
         None => Class::Digits,
-        Some(number) => {
-            if number == 0 && !before_caret {
-                Class::Zero
-            } else {
-                Class::Number
-            }
-        }
+        Some(0) if before_caret => Class::CaretZero,
+        Some(0) => Class::Zero,
+        Some(_) => Class::Number,
     }
 }
 

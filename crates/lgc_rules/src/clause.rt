@@ -1,9 +1,9 @@
-// Clauses for an operator: literals, and lists of clauses.
+// Clauses of an operator: literals, and lists of clauses.
 ghost use Rattle.std.specs.Prelude.{◌≡◌, [], ◌∷◌, ◌++◌, ◌<◌, ◌≤◌, length, OnOk, IfOk};
 ghost use Rattle.lgc_values.specs.Values.{IsSize};
 ghost use Rattle.lgc_lexer.specs.Spans.{AllIn};
 ghost use Rattle.lgc_rules.specs.Spelled.{spelled_all, IsRest, IsShorter};
-ghost use Rattle.lgc_rules.specs.Classes.{AsksForNumber};
+ghost use Rattle.lgc_rules.specs.Classes.{AsksForNumber, is_number};
 ghost use Rattle.lgc_rules.specs.Names.{padded};
 ghost use Rattle.lgc_rules.specs.RuleReading.{literal_at, next_literal_at, more_literals_at, literals_at, empty_clause_at, clause_at, next_clause_at, more_clauses_at, some_clauses_at, clauses_at};
 ghost use Rattle.lgc_rules.specs.Gives.{Gives};
@@ -114,7 +114,7 @@ fn literals<'a, const N: usize>(
     ensures gives { Gives bytes.now (λ x. (sets.new, spelled_all bytes.now x.now)) result (literals_at N m.now arity (spelled_all bytes.now tokens.now)) }
     ensures rest { IfOk result (λ x. IsShorter bytes.now tokens.now x.now) }
 {
-    let rest = literal(m, bytes, arity, Terminal::Only(Class::Number), sets, tokens)?;
+    let rest = literal(m, bytes, arity, Terminal::Argument, sets, tokens)?;
     let rest = more_literals(m, bytes, arity, sets, rest)?;
     let _designated = m.designated();
     pad(sets, usize::from(arity))?;
@@ -172,7 +172,7 @@ fn next_clause<'a, const N: usize>(
     tokens: &'a [Token],
 ) -> Rest<'a>
     requires { AllIn bytes.now tokens.now }
-    ensures gives { Gives bytes.now (λ x. (clauses.new, spelled_all bytes.now x.now)) result (next_clause_at N m.now arity clauses.old (spelled_all bytes.now tokens.now)) }
+    ensures gives { Gives bytes.now (λ x. (clauses.new, spelled_all bytes.now x.now)) result (next_clause_at (clause_at N m.now arity) clauses.old (spelled_all bytes.now tokens.now)) }
     ensures rest { IfOk result (λ x. IsShorter bytes.now tokens.now x.now) }
 {
     let (_, rest) = one(bytes, Terminal::Only(Class::Semicolon), tokens)?;
@@ -193,7 +193,7 @@ fn more_clauses<'a, const N: usize>(
     tokens: &'a [Token],
 ) -> Rest<'a>
     requires { AllIn bytes.now tokens.now }
-    ensures gives { Gives bytes.now (λ x. (clauses.new, spelled_all bytes.now x.now)) result (more_clauses_at N m.now arity clauses.old (spelled_all bytes.now tokens.now)) }
+    ensures gives { Gives bytes.now (λ x. (clauses.new, spelled_all bytes.now x.now)) result (more_clauses_at (clause_at N m.now arity) clauses.old (spelled_all bytes.now tokens.now)) }
     ensures rest { IfOk result (λ x. IsRest bytes.now tokens.now x.now) }
 {
     let mut rest = tokens;
@@ -215,7 +215,7 @@ fn some_clauses<'a, const N: usize>(
 ) -> Rest<'a>
     requires inside { AllIn bytes.now tokens.now }
     requires none { clauses.old ≡ [] }
-    ensures gives { Gives bytes.now (λ x. (clauses.new, spelled_all bytes.now x.now)) result (some_clauses_at N m.now arity (spelled_all bytes.now tokens.now)) }
+    ensures gives { Gives bytes.now (λ x. (clauses.new, spelled_all bytes.now x.now)) result (some_clauses_at (clause_at N m.now arity) (spelled_all bytes.now tokens.now)) }
     ensures rest { IfOk result (λ x. IsRest bytes.now tokens.now x.now) }
 {
     let mut sets = List::new(alloc);
@@ -237,7 +237,7 @@ pub(crate) fn read_clauses<'a, const N: usize>(
 ) -> Rest<'a>
     requires inside { AllIn bytes.now tokens.now }
     requires none { clauses.old ≡ [] }
-    ensures gives { Gives bytes.now (λ x. (clauses.new, spelled_all bytes.now x.now)) result (clauses_at N m.now arity (spelled_all bytes.now tokens.now)) }
+    ensures gives { Gives bytes.now (λ x. (clauses.new, spelled_all bytes.now x.now)) result (clauses_at is_number (clause_at N m.now arity) (spelled_all bytes.now tokens.now)) }
     ensures rest { IfOk result (λ x. IsRest bytes.now tokens.now x.now) }
 {
     if next_is(bytes, Terminal::Number, tokens) {

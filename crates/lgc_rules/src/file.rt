@@ -25,7 +25,7 @@ use lgc_values::{List, Matrix};
 use std::alloc::Global;
 
 /// The greatest length of a rule file, in bytes.
-pub(crate) const LONGEST_FILE: usize = 33_554_432;
+pub const LONGEST_FILE: usize = 33_554_432;
 
 fn fault_at(number: u8, offset: u32) -> InputFault
     ensures { result ≡ Fault number offset }
@@ -145,6 +145,7 @@ pub fn read_rules<const N: usize>(
     // The same as one function of the bytes.
     ensures exact { Tells (λ rules. rules) result (file_read N m.now bytes.now) }
 {
+    let _names = m.names();
     rules_in(alloc, m, bytes)
 }
 
@@ -213,5 +214,6 @@ pub fn rule_at<const N: usize>(
     // The same as one function of the tokens.
     ensures exact { Tells (λ x. (x.0, drop x.1 (spelled_all bytes.now tokens.now))) result (rule_read N m.now (length bytes.now) (drop at (spelled_all bytes.now tokens.now))) }
 {
+    let _names = m.names();
     rule_from(alloc, m, bytes, tokens, at)
 }

@@ -1,4 +1,4 @@
-//! Reading rules for operators against a logic.
+//! Reading rules for operators and quantifiers against a logic.
 //!
 //! - [`read_rules`] reads a rule file: the rules in their order, or the first fault.
 //! - [`rule_at`] reads one rule among the tokens of a larger text, whatever its number is, and tells the token behind it.
@@ -15,11 +15,12 @@ mod clause;
 mod fault;
 mod file;
 mod number;
+mod qclause;
 mod rule;
 mod set;
 mod terminal;
 
-pub use file::{read_rules, rule_at};
+pub use file::{LONGEST_FILE, read_rules, rule_at};
 pub use rule::Numbered;
 
 #[cfg(test)]

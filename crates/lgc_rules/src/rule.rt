@@ -4,19 +4,20 @@ ghost use Rattle.std.specs.Str.{bytes_eq};
 ghost use Rattle.lgc_values.specs.Logic.{operator_at};
 ghost use Rattle.lgc_lexer.specs.Spans.{AllIn};
 ghost use Rattle.lgc_rules.specs.Spelled.{spelled_all, IsShorter};
-ghost use Rattle.lgc_rules.specs.Names.{operator_named};
-ghost use Rattle.lgc_rules.specs.RuleReading.{operator_name_at, operator_head_at, quantifier_name_at, quantifier_head_at, head_at, rule_at};
+ghost use Rattle.lgc_rules.specs.Names.{operator_named, quantifier_named};
+ghost use Rattle.lgc_rules.specs.RuleReading.{operator_name_at, operator_head_at, quantifier_name_at, quantifier_head_at, of_operator_at, of_quantifier_at, of_symbol_at, rule_at};
 ghost use Rattle.lgc_rules.specs.Gives.{Gives};
 
 use crate::class::Class;
 use crate::clause::read_clauses;
 use crate::fault::Stop;
+use crate::qclause::read_quantifier_clauses;
 use crate::set::read_set;
 use crate::terminal::{Reading, Terminal, is_a, next_is, number_from, one};
-use lgc_clauses::{OpRule, Rule};
+use lgc_clauses::{OpRule, QRule, Rule};
 use lgc_lexer::{Token, content};
 use lgc_syntax::{MISNUMBERED, UNKNOWN_NAME, WRONG_ARITY};
-use lgc_values::{List, Matrix, Operator};
+use lgc_values::{List, Matrix, Operator, Quantifier};
 use std::alloc::Global;
 
 /// A rule with the number that is written before it.
@@ -97,42 +98,134 @@ fn operator_head<'a, const N: usize>(
     Ok((op, rest))
 }
 
-// The name of a quantifier, of which there are none.
-#[tactic(auto, unfolding(crate::specs::RuleReading::quantifier_name_at))]
-fn quantifier_name<'a>(bytes: &[u8], tokens: &'a [Token]) -> Reading<'a, u16>
-    requires { AllIn bytes.now tokens.now }
-    ensures gives { Gives bytes.now (λ x. (x.0, spelled_all bytes.now x.1.now)) result (quantifier_name_at (spelled_all bytes.now tokens.now)) }
-    ensures none { IfOk result (λ _. ⊥) }
+// The place of the quantifier with this name.
+fn place_among(quantifiers: &[Quantifier], text: &[u8]) -> Option<usize>
+    ensures place { result ≡ position (λ q. bytes_eq q.name text.now) quantifiers.now }
+    ensures below { IfSome result (λ place. place < length quantifiers.now) }
 {
-    if next_is(bytes, Terminal::Name, tokens) {
-        Err(Stop::Breaks(UNKNOWN_NAME, tokens))
-    } else {
-        Err(Stop::Unexpected(tokens))
+    quantifiers
+        .iter()
+        .position(|quantifier| quantifier.name.bytes() == text)
+}
+
+// The quantifier with this name.
+fn quantifier_named<const N: usize>(m: &Matrix<N>, text: &[u8]) -> Option<u16>
+    ensures { result ≡ quantifier_named m.now text.now }
+{
+    match place_among(m.quantifiers(), text) {
+        Some(place) => Some(place as u16),
+        None => None,
     }
 }
 
-#[tactic(auto, unfolding(crate::specs::RuleReading::quantifier_head_at))]
-fn quantifier_head<'a>(bytes: &[u8], tokens: &'a [Token]) -> Reading<'a, u16>
+// The quantifier that the next token names.
+#[tactic(auto, unfolding(crate::specs::RuleReading::quantifier_name_at))]
+fn quantifier_name<'a, const N: usize>(
+    m: &Matrix<N>,
+    bytes: &[u8],
+    tokens: &'a [Token],
+) -> Reading<'a, u16>
     requires { AllIn bytes.now tokens.now }
-    ensures gives { Gives bytes.now (λ x. (x.0, spelled_all bytes.now x.1.now)) result (quantifier_head_at (spelled_all bytes.now tokens.now)) }
-    ensures none { IfOk result (λ _. ⊥) }
+    ensures gives { Gives bytes.now (λ x. (x.0, spelled_all bytes.now x.1.now)) result (quantifier_name_at m.now (spelled_all bytes.now tokens.now)) }
+    ensures rest { IfOk result (λ x. IsShorter bytes.now tokens.now x.1.now) }
 {
-    let (_, rest) = one(bytes, Terminal::Only(Class::QuantifierWord), tokens)?;
-    quantifier_name(bytes, rest)
+    match tokens.split_first() {
+        Some((token, rest)) if is_a(bytes, Terminal::Name, token, rest) => {
+            match quantifier_named(m, content(bytes, token)) {
+                Some(quant) => Ok((quant, rest)),
+                None => Err(Stop::Breaks(UNKNOWN_NAME, tokens)),
+            }
+        }
+        _ => Err(Stop::Unexpected(tokens)),
+    }
 }
 
-// The operator of a head.
-#[tactic(auto, unfolding(crate::specs::RuleReading::head_at))]
-fn head<'a, const N: usize>(m: &Matrix<N>, bytes: &[u8], tokens: &'a [Token]) -> Reading<'a, u16>
+// The quantifier of a head.
+#[tactic(auto, unfolding(crate::specs::RuleReading::quantifier_head_at))]
+fn quantifier_head<'a, const N: usize>(
+    m: &Matrix<N>,
+    bytes: &[u8],
+    tokens: &'a [Token],
+) -> Reading<'a, u16>
     requires { AllIn bytes.now tokens.now }
-    ensures gives { Gives bytes.now (λ x. (x.0, spelled_all bytes.now x.1.now)) result (head_at m.now (spelled_all bytes.now tokens.now)) }
-    ensures below { IfOk result (λ x. x.0 < length m.now.operators) }
+    ensures gives { Gives bytes.now (λ x. (x.0, spelled_all bytes.now x.1.now)) result (quantifier_head_at m.now (spelled_all bytes.now tokens.now)) }
+    ensures rest { IfOk result (λ x. IsShorter bytes.now tokens.now x.1.now) }
+{
+    let (_, rest) = one(bytes, Terminal::Only(Class::QuantifierWord), tokens)?;
+    quantifier_name(m, bytes, rest)
+}
+
+// A rule for an operator, from its head on.
+#[tactic(auto, unfolding(crate::specs::RuleReading::of_operator_at))]
+fn of_operator<'a, const N: usize>(
+    alloc: Global,
+    m: &Matrix<N>,
+    bytes: &[u8],
+    tokens: &'a [Token],
+) -> Reading<'a, Rule<N>>
+    requires { AllIn bytes.now tokens.now }
+    ensures gives { Gives bytes.now (λ x. (x.0, spelled_all bytes.now x.1.now)) result (of_operator_at N m.now (spelled_all bytes.now tokens.now)) }
+    ensures rest { IfOk result (λ x. IsShorter bytes.now tokens.now x.1.now) }
+{
+    let (op, rest) = operator_head(m, bytes, tokens)?;
+    let (_, rest) = one(bytes, Terminal::Only(Class::AtWord), rest)?;
+    let mut sign = m.designated();
+    let rest = read_set(m, bytes, &mut sign, rest)?;
+    let (_, rest) = one(bytes, Terminal::Only(Class::Colon), rest)?;
+    let (_, rest) = one(bytes, Terminal::Only(Class::OpenSquare), rest)?;
+    let mut clauses = List::new(alloc);
+    let rest = read_clauses(alloc, m, bytes, arity_of(m, op), &mut clauses, rest)?;
+    let (_, rest) = one(bytes, Terminal::Only(Class::CloseSquare), rest)?;
+    let (_, rest) = one(bytes, Terminal::Only(Class::Dot), rest)?;
+    Ok((Rule::Operator(OpRule { op, sign, clauses }), rest))
+}
+
+// A rule for a quantifier, from its head on.
+#[tactic(auto, unfolding(crate::specs::RuleReading::of_quantifier_at))]
+fn of_quantifier<'a, const N: usize>(
+    alloc: Global,
+    m: &Matrix<N>,
+    bytes: &[u8],
+    tokens: &'a [Token],
+) -> Reading<'a, Rule<N>>
+    requires { AllIn bytes.now tokens.now }
+    ensures gives { Gives bytes.now (λ x. (x.0, spelled_all bytes.now x.1.now)) result (of_quantifier_at N m.now (spelled_all bytes.now tokens.now)) }
+    ensures rest { IfOk result (λ x. IsShorter bytes.now tokens.now x.1.now) }
+{
+    let (quant, rest) = quantifier_head(m, bytes, tokens)?;
+    let (_, rest) = one(bytes, Terminal::Only(Class::AtWord), rest)?;
+    let mut sign = m.designated();
+    let rest = read_set(m, bytes, &mut sign, rest)?;
+    let (_, rest) = one(bytes, Terminal::Only(Class::Colon), rest)?;
+    let (_, rest) = one(bytes, Terminal::Only(Class::OpenSquare), rest)?;
+    let mut clauses = List::new(alloc);
+    let rest = read_quantifier_clauses(alloc, m, bytes, &mut clauses, rest)?;
+    let (_, rest) = one(bytes, Terminal::Only(Class::CloseSquare), rest)?;
+    let (_, rest) = one(bytes, Terminal::Only(Class::Dot), rest)?;
+    let rule = QRule {
+        quant,
+        sign,
+        clauses,
+    };
+    Ok((Rule::Quantifier(rule), rest))
+}
+
+// A rule from its head on.
+#[tactic(auto, unfolding(crate::specs::RuleReading::of_symbol_at))]
+fn of_symbol<'a, const N: usize>(
+    alloc: Global,
+    m: &Matrix<N>,
+    bytes: &[u8],
+    tokens: &'a [Token],
+) -> Reading<'a, Rule<N>>
+    requires { AllIn bytes.now tokens.now }
+    ensures gives { Gives bytes.now (λ x. (x.0, spelled_all bytes.now x.1.now)) result (of_symbol_at N m.now (spelled_all bytes.now tokens.now)) }
     ensures rest { IfOk result (λ x. IsShorter bytes.now tokens.now x.1.now) }
 {
     if next_is(bytes, Terminal::Only(Class::OperatorWord), tokens) {
-        operator_head(m, bytes, tokens)
+        of_operator(alloc, m, bytes, tokens)
     } else {
-        quantifier_head(bytes, tokens)
+        of_quantifier(alloc, m, bytes, tokens)
     }
 }
 
@@ -153,16 +246,6 @@ pub(crate) fn one_rule<'a, const N: usize>(
     let (_, rest) = one(bytes, Terminal::Only(Class::RuleWord), tokens)?;
     let (number, rest) = number_from(bytes, least, most, MISNUMBERED, Terminal::Number, rest)?;
     let (_, rest) = one(bytes, Terminal::Only(Class::Colon), rest)?;
-    let (op, rest) = head(m, bytes, rest)?;
-    let (_, rest) = one(bytes, Terminal::Only(Class::AtWord), rest)?;
-    let mut sign = m.designated();
-    let rest = read_set(m, bytes, &mut sign, rest)?;
-    let (_, rest) = one(bytes, Terminal::Only(Class::Colon), rest)?;
-    let (_, rest) = one(bytes, Terminal::Only(Class::OpenSquare), rest)?;
-    let mut clauses = List::new(alloc);
-    let rest = read_clauses(alloc, m, bytes, arity_of(m, op), &mut clauses, rest)?;
-    let (_, rest) = one(bytes, Terminal::Only(Class::CloseSquare), rest)?;
-    let (_, rest) = one(bytes, Terminal::Only(Class::Dot), rest)?;
-    let rule = Rule::Operator(OpRule { op, sign, clauses });
+    let (rule, rest) = of_symbol(alloc, m, bytes, rest)?;
     Ok((Numbered { number, rule }, rest))
 }

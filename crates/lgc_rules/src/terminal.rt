@@ -3,7 +3,7 @@ ghost use Rattle.std.specs.Prelude.{◌≡◌, ◌<◌, ◌≤◌, ◌^◌, leng
 ghost use Rattle.lgc_grammar.specs.Reading.{one_at, next_is};
 ghost use Rattle.lgc_lexer.specs.Spans.{LiesIn, AllIn};
 ghost use Rattle.lgc_rules.specs.Spelled.{spelled, spelled_all, place, IsShorter};
-ghost use Rattle.lgc_rules.specs.Classes.{passes, names, numbers, values, is_a, AsksForNumber};
+ghost use Rattle.lgc_rules.specs.Classes.{passes, names, arguments, numbers, zeros, quantifier_clauses, values, is_a, AsksForNumber};
 ghost use Rattle.lgc_rules.specs.RuleReading.{number_at};
 ghost use Rattle.lgc_rules.specs.Gives.{Gives};
 
@@ -24,6 +24,12 @@ pub(crate) enum Terminal {
     Only(Class),
     Name,
     Number,
+    /// A number with which the first literal of a clause begins: a 0 has a Symbol `^` behind it.
+    Argument,
+    /// The number 0.
+    Zero,
+    /// What a clause of a quantifier begins with.
+    QuantifierClause,
     Value,
 }
 
@@ -33,10 +39,28 @@ fn names(class: Class) -> bool
     is_lower(class) || same(Class::Quoted, class)
 }
 
+fn arguments(class: Class) -> bool
+    ensures { result ≡ arguments class }
+{
+    same(Class::CaretZero, class) || same(Class::Number, class)
+}
+
 fn numbers(class: Class) -> bool
     ensures { result ≡ numbers class }
 {
-    same(Class::Zero, class) || same(Class::Number, class)
+    same(Class::Zero, class) || arguments(class)
+}
+
+fn zeros(class: Class) -> bool
+    ensures { result ≡ zeros class }
+{
+    same(Class::Zero, class) || same(Class::CaretZero, class)
+}
+
+fn quantifier_clauses(class: Class) -> bool
+    ensures { result ≡ quantifier_clauses class }
+{
+    zeros(class) || same(Class::AllWord, class) || same(Class::SomeWord, class)
 }
 
 fn values(class: Class) -> bool
@@ -57,6 +81,9 @@ fn passes(terminal: Terminal, class: Class) -> bool
         Terminal::Only(only) => same(only, class),
         Terminal::Name => names(class),
         Terminal::Number => numbers(class),
+        Terminal::Argument => arguments(class),
+        Terminal::Zero => zeros(class),
+        Terminal::QuantifierClause => quantifier_clauses(class),
         Terminal::Value => values(class),
     }
 }

@@ -2,10 +2,10 @@
 ghost use Rattle.std.specs.Prelude.{◌≡◌, ◌∷◌, [], IfOk, codes};
 
 use crate::{Numbered, read_rules, rule_at};
-use lgc_clauses::Rule;
+use lgc_clauses::{OpRule, QRule, Rule};
 use lgc_lexer::lex;
 use lgc_syntax::InputFault;
-use lgc_values::{List, Matrix, Name, Operator, ValueSet};
+use lgc_values::{List, Matrix, Name, Operator, Quantifier, ValueSet};
 use std::alloc::{AllocError, Global};
 use std::test::Fail;
 
@@ -46,17 +46,43 @@ fn truth(alloc: Global) -> Result<Operator, AllocError>
     })
 }
 
-// The values f, u and t with two operators: implication and a constant.
+fn universal(alloc: Global) -> Result<Quantifier, AllocError>
+    ensures { IfOk result (λ quantifier. quantifier ≡ record { name = codes "forall"; table = 0 ∷ 1 ∷ 0 ∷ 2 ∷ 0 ∷ 1 ∷ 0 ∷ [] }) }
+{
+    Ok(Quantifier {
+        name: name_of(alloc, b"forall")?,
+        table: List::of_vec(vec![in alloc; 0, 1, 0, 2, 0, 1, 0]?),
+    })
+}
+
+// The values f, u and t with two operators, implication and a constant, and the universal quantifier.
 fn three_values(alloc: Global) -> Result<Matrix<3>, AllocError> {
     let names = value_names(alloc)?;
     let operators = List::of_vec(vec![in alloc; implication(alloc)?, truth(alloc)?]?);
-    Ok(Matrix::new(names, ValueSet::single(2), operators, List::new(alloc)))
+    let quantifiers = List::of_vec(vec![in alloc; universal(alloc)?]?);
+    Ok(Matrix::new(names, ValueSet::single(2), operators, quantifiers))
 }
 
-// Numbers of a rule: the operator, the mask of the sign, how many clauses there are, and for each clause how many sets it has
-// and their masks. In masks f counts 1, u counts 2 and t counts 4.
-fn put_rule(found: &mut Vec<u16>, rule: &Rule<3>) -> Result<(), AllocError> {
-    let Rule::Operator(rule) = rule;
+// Numbers of a rule for a quantifier: 999, the quantifier, the mask of the sign, how many clauses there are, and for each clause
+// how many `all` sets it has, their masks and that of its `some` set.
+fn put_quantifier_rule(found: &mut Vec<u16>, rule: &QRule<3>) -> Result<(), AllocError> {
+    found.push(999)?;
+    found.push(rule.quant)?;
+    found.push(rule.sign.mask())?;
+    found.push((rule.clauses.len() % 100) as u16)?;
+    for clause in rule.clauses.items().iter() {
+        found.push((clause.all.len() % 100) as u16)?;
+        for set in clause.all.items().iter() {
+            found.push(set.mask())?;
+        }
+        found.push(clause.some.mask())?;
+    }
+    Ok(())
+}
+
+// Numbers of a rule for an operator: the operator, the mask of the sign, how many clauses there are, and for each clause how many
+// sets it has and their masks. In masks f counts 1, u counts 2 and t counts 4.
+fn put_operator_rule(found: &mut Vec<u16>, rule: &OpRule<3>) -> Result<(), AllocError> {
     found.push(rule.op)?;
     found.push(rule.sign.mask())?;
     found.push((rule.clauses.len() % 100) as u16)?;
@@ -67,6 +93,13 @@ fn put_rule(found: &mut Vec<u16>, rule: &Rule<3>) -> Result<(), AllocError> {
         }
     }
     Ok(())
+}
+
+fn put_rule(found: &mut Vec<u16>, rule: &Rule<3>) -> Result<(), AllocError> {
+    match rule {
+        Rule::Operator(rule) => put_operator_rule(found, rule),
+        Rule::Quantifier(rule) => put_quantifier_rule(found, rule),
+    }
 }
 
 #[test]
@@ -92,6 +125,44 @@ fn rules_of_files(rt: HostRuntime) -> Result<(), Fail> {
         (
             b"rule/* a */1 : operator imp / 2 at { u } : [ 1 ^ { f , u } ] .%",
             &[0, 2, 1, 2, 3, 0],
+        ),
+    ];
+    for (bytes, expected) in cases.iter() {
+        let rules = read_rules(rt.alloc(), &matrix, *bytes)?;
+        let mut found = Vec::new(rt.alloc());
+        for rule in rules.items().iter() {
+            put_rule(&mut found, rule)?;
+        }
+        assert!(rt; found.as_slice() == *expected);
+    }
+    Ok(())
+}
+
+#[test]
+fn rules_of_quantifiers(rt: HostRuntime) -> Result<(), Fail> {
+    let matrix = three_values(rt.alloc())?;
+    let cases: [(&[u8], &[u16]); 6] = [
+        (
+            b"rule 1: quantifier forall at {u}: [all{u,t}; some{u}].\n",
+            &[999, 0, 2, 2, 1, 6, 0, 0, 2],
+        ),
+        (
+            b"rule 1: quantifier forall at {f,t}: [0].",
+            &[999, 0, 5, 1, 0, 0],
+        ),
+        (b"rule 1: quantifier 'forall' at {t}: [].", &[999, 0, 4, 0]),
+        // The `all` sets keep their order, and a `some` set stands behind them.
+        (
+            b"rule 1:quantifier forall at{t}:[all{u},all{t,f},all{u},some{u,u}].",
+            &[999, 0, 4, 1, 3, 2, 5, 2, 2],
+        ),
+        (
+            b"rule 1: quantifier forall at {t}: [all {f}, some {t}; 0; all {t}, all {f}].",
+            &[999, 0, 4, 3, 1, 1, 4, 0, 0, 2, 4, 1, 0],
+        ),
+        (
+            b"rule 1: quantifier forall at {t}: [some{f}]. rule 2: operator top/0 at {f}: [0].",
+            &[999, 0, 4, 1, 0, 1, 1, 1, 1, 0],
         ),
     ];
     for (bytes, expected) in cases.iter() {
@@ -239,6 +310,69 @@ fn faults_of_clauses(rt: HostRuntime) -> Result<(), Fail> {
         (b"[2^{f}; 3^{f}]", 11, 39),
         (b"[4294967295^{f}]", 11, 32),
         (b"[1^{x}]. '", 3, 40),
+    ];
+    for (tail, number, offset) in cases.iter() {
+        let fault = fault_behind(rt.alloc(), &matrix, head, *tail)?;
+        assert_eq!(rt; fault, fault_at(*number, *offset));
+    }
+    Ok(())
+}
+
+#[test]
+fn faults_of_quantifier_heads(rt: HostRuntime) -> Result<(), Fail> {
+    let matrix = three_values(rt.alloc())?;
+    let cases: [(&[u8], u8, u32); 11] = [
+        (b"rule 1: quantifier exists at", 5, 19),
+        (b"rule 1: quantifier imp at", 5, 19),
+        (b"rule 1: quantifier f at", 5, 19),
+        (b"rule 1: quantifier all at", 5, 19),
+        (b"rule 1: quantifier Forall at", 4, 19),
+        (b"rule 1: operator forall/1", 5, 17),
+        (b"rule 1: quantifier forall/1", 4, 25),
+        (b"rule 1: quantifier 'forall' in", 4, 28),
+        (b"rule 1: quantifier", 4, 18),
+        (b"rule 1: operator imp/2 at {f}: [all{u}]", 4, 32),
+        (b"rule 1: operator imp/2 at {f}: [1^{f}, some{u}]", 4, 39),
+    ];
+    for (bytes, number, offset) in cases.iter() {
+        let fault = read_rules(rt.alloc(), &matrix, *bytes).err();
+        assert_eq!(rt; fault, fault_at(*number, *offset));
+    }
+    Ok(())
+}
+
+#[test]
+fn faults_of_quantifier_clauses(rt: HostRuntime) -> Result<(), Fail> {
+    let matrix = three_values(rt.alloc())?;
+    let head = b"rule 1: quantifier forall at {u}: ";
+    let cases: [(&[u8], u8, u32); 27] = [
+        (b"{", 4, 34),
+        (b"[x", 4, 35),
+        (b"[all", 4, 38),
+        (b"[all]", 4, 38),
+        (b"[all {}]", 4, 40),
+        (b"[all{x}]", 10, 39),
+        (b"[all{u},]", 4, 42),
+        (b"[all{u} all{t}]", 4, 42),
+        (b"[all{u}, 'all'{t}]", 4, 43),
+        (b"[all{u}, 0]", 4, 43),
+        (b"[all{u}, x]", 4, 43),
+        (b"[all{u}, some{x}]", 10, 48),
+        (b"[all{u}, some{t}, all{t}]", 4, 50),
+        (b"[some{u}, all{t}]", 4, 42),
+        (b"[some{u}, some{t}]", 4, 42),
+        (b"[some]", 4, 39),
+        (b"[some{u};]", 4, 43),
+        (b"[0^{f}]", 4, 36),
+        (b"[0, all{u}]", 4, 36),
+        (b"[0; 0^{f}]", 4, 39),
+        (b"[00]", 4, 35),
+        (b"[1^{f}]", 4, 35),
+        (b"[all{u}; 1^{f}]", 4, 43),
+        (b"[all{u}", 4, 41),
+        (b"[all{u}]", 4, 42),
+        (b"[all{u}]..", 4, 43),
+        (b"[all{u}]. rule 1:", 12, 49),
     ];
     for (tail, number, offset) in cases.iter() {
         let fault = fault_behind(rt.alloc(), &matrix, head, *tail)?;

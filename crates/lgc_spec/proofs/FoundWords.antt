@@ -6,11 +6,13 @@ use Rattle.std.proofs.lemmas.Option.{same_Some}
 use Rattle.std.proofs.lemmas.List.Elements.{All-nil, All-cons, All-head, All-tail}
 use Rattle.lgc_parser.specs.declared.tree.Word.{Word}
 use Rattle.lgc_parser.specs.declared.tree.OpBody.{OpBody}
+use Rattle.lgc_parser.specs.declared.tree.QuantBody.{QuantBody}
 use Rattle.lgc_parser.specs.declared.tree.Statement.{Statement}
 use Rattle.lgc_parser.specs.declared.tree.Statement.TheVariants.{Logic, Values, Designated, Ordering, Operator, Quantifier}
 use Rattle.lgc_parser.specs.TreeWords.{StatementDeclares, StatementHas}
 use Rattle.lgc_spec.specs.Statements.{first_some, name_in, values_in, designated_in}
 use Rattle.lgc_spec.specs.Operators.{operator_in}
+use Rattle.lgc_spec.specs.Quantifiers.{quantifier_in}
 
 found_in : {X Y : Type 0} (P : X → Type 0) (Q : Y → Type 0) (part : X → Option Y) → ((x : X) (y : Y) → P x → part x ≡ Some y → Q y) → (xs : List X) (y : Y) → All P xs → first_some part xs ≡ Some y → Q y
 found_in {X = X} {Y = Y} P Q part step [] y all e = cc
@@ -66,3 +68,12 @@ operator_more V N s others h all = all
 pub declared_operators : (V N : Word → Type 0) (statements : List Statement) → All (StatementDeclares V N) statements → All (λ o. N o.0) (filter_map operator_in statements)
 declared_operators V N [] all = All-nil (λ o. N o.0)
 declared_operators V N (s ∷ statements) all = operator_more V N s (filter_map operator_in statements) (All-head (StatementDeclares V N) s statements all) (declared_operators V N statements (All-tail (StatementDeclares V N) s statements all))
+
+-- the quantifier of one more statement
+quantifier_more : (V N : Word → Type 0) (s : Statement) (others : List (Word × QuantBody)) → StatementDeclares V N s → All (λ q. N q.0) others → All (λ q. N q.0) (cons_option (quantifier_in s) others)
+quantifier_more V N (Quantifier name body) others h all = All-cons (λ q. N q.0) (name, body) others h all
+quantifier_more V N s others h all = all
+
+pub declared_quantifiers : (V N : Word → Type 0) (statements : List Statement) → All (StatementDeclares V N) statements → All (λ q. N q.0) (filter_map quantifier_in statements)
+declared_quantifiers V N [] all = All-nil (λ q. N q.0)
+declared_quantifiers V N (s ∷ statements) all = quantifier_more V N s (filter_map quantifier_in statements) (All-head (StatementDeclares V N) s statements all) (declared_quantifiers V N statements (All-tail (StatementDeclares V N) s statements all))

@@ -84,11 +84,11 @@ not_kept bytes n text (x ∷ orders) (o ∷ orderings) kept none =
       step true h l later = absurd (omega arith)
       step false h l later = rw (← h) (later (omega arith))
 
-place_is : (b : Bool) (place k : ℕ) → Some place ≡ cond b (Some k) None → place ≡ k
+pub place_is : (b : Bool) (place k : ℕ) → Some place ≡ cond b (Some k) None → place ≡ k
 place_is true place k e = cc
 place_is false place k e = cc
 
-place_past : (k n : ℕ) → None ≡ cond (nat_lt k n) (Some k) None → n ≤ k
+pub place_past : (k n : ℕ) → None ≡ cond (nat_lt k n) (Some k) None → n ≤ k
 place_past k n e = grind (arith, nat_tests)
 
 -- the bounds of a kept order are those of the ordering's links

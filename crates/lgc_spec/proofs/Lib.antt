@@ -31,3 +31,10 @@ pub mod OneInTurn
 pub mod OneOrder
 pub mod OneSpec
 pub mod TakenNames
+pub mod SetSteps
+pub mod DistributionSteps
+pub mod InductionSteps
+pub mod SetBounds
+pub mod QuantifierSteps
+pub mod QuantifierShapes
+pub mod SemilatticeLaws

@@ -10,7 +10,7 @@ use Rattle.std.proofs.lemmas.Slice.Eq.{bytes_eq-Decides}
 use Rattle.std.proofs.lemmas.Option.{slice_get_cases}
 use Rattle.std.proofs.lemmas.List.{get_or-map, length-map, get_or-take, length-take-le}
 use Rattle.std.proofs.lemmas.List.Folds.{list_any_at}
-use Rattle.lgc_values.specs.declared.TheConstants.{MOST_VALUES, MOST_SYMBOLS}
+use Rattle.lgc_values.specs.declared.TheConstants.{MOST_VALUES}
 use Rattle.lgc_values.specs.declared.matrix.Operator as lgc
 use Rattle.lgc_values.specs.Values.{values_where, has, members_of}
 use Rattle.lgc_values.specs.Logic.{IsOperator, IsPlainName}
@@ -32,7 +32,7 @@ use Rattle.lgc_spec.proofs.OperatorShapes.{unless_ok, bind_ok, none_else, operat
 
 -- ---- distinct texts
 
-same_bytes : (a b : List ℕ) → a ≡ b → bytes_eq a b ≡ true
+pub same_bytes : (a b : List ℕ) → a ≡ b → bytes_eq a b ≡ true
 same_bytes a b e = (bytes_eq-Decides a b).1 e
 
 -- no text is that of one before it
@@ -130,7 +130,7 @@ members_kept n mask = kept _ where
 
 -- ---- the operators
 
-both_none : {F : Type 0} (a b : Option F) → option_or a b ≡ None → (a ≡ None) × (b ≡ None)
+pub both_none : {F : Type 0} (a b : Option F) → option_or a b ≡ None → (a ≡ None) × (b ≡ None)
 both_none None b e = (refl, e)
 both_none (Some f) b e = absurd cc
 
@@ -175,9 +175,9 @@ module _ (bytes : List ℕ) (names : List (List ℕ)) (orderings : List Ordered)
         false_true : {b : Bool} → b ≡ false → b ≡ true → ⊥
         false_true h g = cc
 
-  pub symbols_few : length operators + 0 ≤ MOST_SYMBOLS
-  symbols_few = by (length written) refl where
-    by : (n : ℕ) → length written ≡ n → length operators + 0 ≤ MOST_SYMBOLS
+  pub operators_few : length operators ≤ 64
+  operators_few = by (length written) refl where
+    by : (n : ℕ) → length written ≡ n → length operators ≤ 64
     by zero e = omega (arith, all.0, e)
     by (suc k) e =
         let y : lgc.Operator = record { name = []; arity = 0; table = [] } in

@@ -15,7 +15,7 @@ use Rattle.lgc_spec.proofs.PutRows.{any_find, small_results}
 
 -- ---- the first number that passes a test
 
-find_in_range : (test : ℕ → Bool) (a n i : ℕ) → i < n → test (a + i) ≡ true → ((k : ℕ) → k < i → test (a + k) ≡ false) → find test (range_with_len a n) ≡ Some (a + i)
+pub find_in_range : (test : ℕ → Bool) (a n i : ℕ) → i < n → test (a + i) ≡ true → ((k : ℕ) → k < i → test (a + k) ≡ false) → find test (range_with_len a n) ≡ Some (a + i)
 find_in_range test a zero i lt here before = absurd (omega arith)
 find_in_range test a (suc n) zero lt here before =
     let same : a + 0 ≡ a = omega arith in
@@ -30,7 +30,7 @@ find_in_range test a (suc n) (suc i) lt here before =
     (λ k lower. let next : a + suc k ≡ a + 1 + k = omega arith in rw next at (before (suc k) (omega arith))) in
     rw (fails, place) rest
 
-none_in_range : (test : ℕ → Bool) (a n : ℕ) → ((k : ℕ) → k < n → test (a + k) ≡ false) → find test (range_with_len a n) ≡ None
+pub none_in_range : (test : ℕ → Bool) (a n : ℕ) → ((k : ℕ) → k < n → test (a + k) ≡ false) → find test (range_with_len a n) ≡ None
 none_in_range test a zero before = refl
 none_in_range test a (suc n) before =
     let first : a + 0 ≡ a = omega arith in

@@ -1,11 +1,12 @@
 -- Links give one order or one first cycle, and an order gives one table of bounds or one first row without a bound.
-use Rattle.std.proofs.Common.{◌≡◌, ℕ, ◌*◌, ◌/◌, ◌%◌, ◌<◌, inl, inr, Bool, true, false, List, length, get_or, Ok, Err, sym, ◌∙◌, arith}
+use Rattle.std.proofs.Common.{◌≡◌, ℕ, ◌+◌, ◌-◌, ◌^◌, ◌*◌, ◌/◌, ◌%◌, ◌<◌, inl, inr, Bool, true, false, List, length, get_or, Ok, Err, sym, ◌∙◌, arith}
 use Rattle.std.proofs.lemmas.List.{same_lists}
 use Rattle.std.proofs.lemmas.Grind.{get_or_default_zero}
 use Rattle.lgc_orders.specs.Order.{Leads, IsAntisymmetric, IsFirstCycle}
 use Rattle.lgc_spec.specs.declared.fault.SpecFault.{SpecFault}
 use Rattle.lgc_spec.specs.Orderings.{Orders}
-use Rattle.lgc_spec.specs.Bounds.{IsBound, BoundsGive}
+use Rattle.lgc_values.specs.Values.{members_of}
+use Rattle.lgc_spec.specs.Bounds.{IsBound, IsSetBound, BoundsGive, SetBoundsGive}
 use Rattle.lgc_spec.proofs.OneAnswer.{OneAnswer}
 use Rattle.lgc_spec.proofs.OneInTurn.{by_order}
 
@@ -31,6 +32,11 @@ module _ (n : ℕ) (le : ℕ → ℕ → Type 0) where
   bound_once : (lower : Bool) (a b c d : ℕ) → IsAntisymmetric n le → IsBound lower n le a b c → IsBound lower n le a b d → c ≡ d
   bound_once true a b c d order one other = order c d one.within other.within (other.greatest c one.within one.bound) (one.greatest d other.within other.bound)
   bound_once false a b c d order one other = order c d one.within other.within (one.least d other.within other.bound) (other.least c one.within one.bound)
+
+  -- and so does a set
+  set_bound_once : (lower : Bool) (set : List ℕ) (c d : ℕ) → IsAntisymmetric n le → IsSetBound lower n le set c → IsSetBound lower n le set d → c ≡ d
+  set_bound_once true set c d order one other = order c d one.within other.within (other.greatest c one.within one.bound) (one.greatest d other.within other.bound)
+  set_bound_once false set c d order one other = order c d one.within other.within (one.least d other.within other.bound) (other.least c one.within one.bound)
 
 pub orders_once : (names : List (List ℕ)) (name : List ℕ) (at : ℕ) (links : List (ℕ × ℕ)) → OneAnswer (Orders names name at links)
 orders_once names name at links (Ok a) (Ok b) h g = let same : a ≡ b = h.0 ∙ sym g.0 in cc
@@ -63,3 +69,19 @@ module _ (lower : Bool) (names : List (List ℕ)) (at : ℕ) (le : ℕ → ℕ �
   bounds_once (Ok table) (Err e) h g = absurd (table_or_fault table e h g)
   bounds_once (Err f) (Ok other) h g = absurd (table_or_fault other f g h)
   bounds_once (Err f) (Err e) h g = let same = fault_once f e h g in cc
+
+  set_table_once : (table other : List ℕ) → SetBoundsGive lower names at le (Ok table) → SetBoundsGive lower names at le (Ok other) → table ≡ other
+  set_table_once table other h g = same_lists table other (h.1 ∙ sym g.1) (λ k d lt.
+      let within : k < 2 ^ length names - 1 = rw h.1 at lt in
+      let there : k < length other = rw (h.1 ∙ sym g.1) at lt in
+      rw (get_or_default_zero table k d lt, get_or_default_zero other k d there)
+      (set_bound_once (length names) le lower (members_of (length names) (k + 1)) (get_or table k 0) (get_or other k 0) order (h.2 k within) (g.2 k within)))
+
+  set_table_or_fault : (table : List ℕ) (fault : SpecFault) → SetBoundsGive lower names at le (Ok table) → SetBoundsGive lower names at le (Err fault) → ⊥
+  set_table_or_fault table fault h (row, within, none, before, is) = none (h.0 row within)
+
+  pub set_bounds_once : OneAnswer (SetBoundsGive lower names at le)
+  set_bounds_once (Ok table) (Ok other) h g = let same = set_table_once table other h g in cc
+  set_bounds_once (Ok table) (Err e) h g = absurd (set_table_or_fault table e h g)
+  set_bounds_once (Err f) (Ok other) h g = absurd (set_table_or_fault other f g h)
+  set_bounds_once (Err f) (Err e) h g = let same = fault_once f e h g in cc

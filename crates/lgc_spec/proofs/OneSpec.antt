@@ -1,15 +1,17 @@
 -- Bytes give one logic or one fault, so what they give is what is answered.
-use Rattle.std.proofs.Common.{◌≡◌, ℕ, Bool, true, false, cond, List, [], ◌∷◌, length, map, find, All, Option, Some, None, Result, Ok, sym, ◌∙◌}
+use Rattle.std.proofs.Common.{◌≡◌, ℕ, List, length, map, All, Option, Some, None, Result, Ok, sym, ◌∙◌}
 use Rattle.std.specs.List.{filter_map}
 use Rattle.std.specs.Str.{bytes_eq}
-use Rattle.std.proofs.lemmas.List.Elements.{All-head, All-tail}
 use Rattle.lgc_orders.specs.Order.{Leads, IsAntisymmetric}
 use Rattle.lgc_values.specs.Values.{mask_of}
 use Rattle.lgc_values.specs.declared.matrix.Operator as lgc
+use Rattle.lgc_values.specs.declared.matrix.Quantifier as lgcq
 use Rattle.lgc_lexer.specs.declared.token.Token.{Token}
 use Rattle.lgc_parser.specs.declared.tree.Word.{Word}
 use Rattle.lgc_parser.specs.declared.tree.OpBody.{OpBody}
 use Rattle.lgc_parser.specs.declared.tree.OpBody.TheVariants.{Mapping, Table, Bound}
+use Rattle.lgc_parser.specs.declared.tree.QuantBody.{QuantBody}
+use Rattle.lgc_parser.specs.declared.tree.QuantBody.TheVariants as body
 use Rattle.lgc_parser.specs.declared.tree.Statement.{Statement}
 use Rattle.lgc_parser.specs.Spelled.{Spelled}
 use Rattle.lgc_parser.specs.SpecGrammar as grammar
@@ -27,11 +29,16 @@ use Rattle.lgc_spec.specs.Bounds.{found, not_binary, ordering_named}
 use Rattle.lgc_spec.specs.Mappings.{mapping_given}
 use Rattle.lgc_spec.specs.Tables.{table_given}
 use Rattle.lgc_spec.specs.Operators.{operator_in, head_given, BodyGives, OperatorGives, OperatorsGive}
-use Rattle.lgc_spec.specs.Specification.{values_given, quantifier_in, logic_name, StatementsGive, BytesGive}
+use Rattle.lgc_spec.specs.Distributions.{distribution_given}
+use Rattle.lgc_spec.specs.Inductions.{induced_given}
+use Rattle.lgc_spec.specs.Quantifiers as quant
+use Rattle.lgc_spec.specs.Quantifiers.{quantifier_in, symbol_fault, QuantifierGives, QuantifiersGive}
+use Rattle.lgc_spec.specs.Specification.{values_given, logic_name, StatementsGive, BytesGive}
 use Rattle.lgc_spec.proofs.OperatorShapes.{unless_ok, follows_ok, then_ok}
 use Rattle.lgc_spec.proofs.OneAnswer.{OneAnswer, told_once, follows_once, then_once, parses_once, is_answered}
 use Rattle.lgc_spec.proofs.OneInTurn.{parts_are, in_turn_once}
-use Rattle.lgc_spec.proofs.OneOrder.{orders_once, bounds_once}
+use Rattle.lgc_spec.proofs.OneOrder.{orders_once, bounds_once, set_bounds_once}
+use Rattle.lgc_spec.proofs.QuantifierShapes.{found_has}
 
 -- ---- trees
 
@@ -73,14 +80,6 @@ found_is : (word : Word) (o : Option Ordered) (ordered : Ordered) → found word
 found_is word None ordered e = absurd cc
 found_is word (Some other) ordered e = let same : other ≡ ordered = cc in cc
 
--- what holds of all holds of the one that is found
-found_has : {X : Type 0} (P : X → Type 0) (test : X → Bool) (xs : List X) (x : X) → All P xs → find test xs ≡ Some x → P x
-found_has P test [] x all e = absurd cc
-found_has {X} P test (y ∷ xs) x all e = by (test y) e (found_has P test xs x (All-tail P y xs all)) where
-  by : (b : Bool) → cond b (Some y) (find test xs) ≡ Some x → (find test xs ≡ Some x → P x) → P x
-  by true h later = let same : x ≡ y = cc in rw same (All-head P y xs all)
-  by false h later = later h
-
 -- bounds are taken in orders alone, since each ordering is one
 module _ (bytes : List ℕ) (names : List (List ℕ)) (orderings : List Ordered) (are : All (IsOrdering names) orderings) where
   body_once : (arity : ℕ) (body : OpBody) → OneAnswer (BodyGives bytes names orderings arity body)
@@ -88,7 +87,7 @@ module _ (bytes : List ℕ) (names : List (List ℕ)) (orderings : List Ordered)
   body_once arity (Table at cells) = told_once (table_given bytes names arity at cells)
   body_once arity (Bound at lower word) = follows_once _ _ (λ ordered is.
       let named = found_is word (ordering_named bytes orderings word) ordered (unless_ok (not_binary arity at) (found word (ordering_named bytes orderings word)) ordered is).1 in
-      bounds_once lower names at (Leads ordered.links) (found_has (IsOrdering names) (λ o. bytes_eq o.name (text_of bytes word)) orderings ordered are named))
+      bounds_once lower names at (Leads ordered.links) (found_has (IsOrdering names) (λ o. bytes_eq o.name (text_of bytes word)) orderings ordered are named).0)
 
   operator_once : (before : List (Word × Word × OpBody)) (operator : Word × Word × OpBody) → OneAnswer (OperatorGives bytes names orderings before operator)
   operator_once before operator =
@@ -100,16 +99,38 @@ module _ (bytes : List ℕ) (names : List (List ℕ)) (orderings : List Ordered)
   operators_once : (statements : List Statement) → OneAnswer (OperatorsGive bytes names orderings statements)
   operators_once statements = in_turn_once (OperatorGives bytes names orderings) operator_once (filter_map operator_in statements)
 
+  -- ---- quantifiers
+
+  quantifier_body_once : (operators : List lgc.Operator) (b : QuantBody) → OneAnswer (quant.BodyGives bytes names orderings operators b)
+  quantifier_body_once operators (body.Mapping rows close) = told_once (distribution_given bytes names rows close)
+  quantifier_body_once operators (body.Induced name arity) = told_once (induced_given bytes names operators name arity)
+  quantifier_body_once operators (body.Bound at lower word) = follows_once _ _ (λ ordered is.
+      let named = found_is word (ordering_named bytes orderings word) ordered is in
+      set_bounds_once lower names at (Leads ordered.links) (found_has (IsOrdering names) (λ o. bytes_eq o.name (text_of bytes word)) orderings ordered are named).0)
+
+  quantifier_once : (operators : List lgc.Operator) (before : List (Word × QuantBody)) (quantifier : Word × QuantBody) → OneAnswer (QuantifierGives bytes names orderings operators before quantifier)
+  quantifier_once operators before quantifier =
+      let made : List ℕ → Result lgcq.Quantifier SpecFault = λ table. Ok (record { name = text_of bytes quantifier.0; table = table }) in
+      follows_once (unless (symbol_fault bytes (map (λ o. o.name) operators) (map (λ q. text_of bytes q.0) before) quantifier.0) (Ok quantifier.1)) (λ b. Then (quant.BodyGives bytes names orderings operators b) (λ table told. told ≡ made table)) (λ b _.
+      then_once (quant.BodyGives bytes names orderings operators b) (λ table told. told ≡ made table) (quantifier_body_once operators b) (λ table _.
+      told_once (made table)))
+
+  quantifiers_once : (operators : List lgc.Operator) (statements : List Statement) → OneAnswer (QuantifiersGive bytes names orderings operators statements)
+  quantifiers_once operators statements = in_turn_once (QuantifierGives bytes names orderings operators) (quantifier_once operators) (filter_map quantifier_in statements)
+
 -- ---- the file
 
 statements_once : (bytes : List ℕ) (statements : List Statement) → OneAnswer (StatementsGive bytes statements)
 statements_once bytes statements =
-    let given : List (List ℕ) × List ℕ → List lgc.Operator → Result Spec SpecFault = λ values operators. unless (first_some quantifier_in statements) (Ok (record { name = logic_name bytes (first_some name_in statements); values = values.0; designated = mask_of values.1; operators = operators; quantifiers = [] })) in
-    let behind : List (List ℕ) × List ℕ → List Ordered → Result Spec SpecFault → Type 0 = λ values orderings. Then (OperatorsGive bytes values.0 orderings statements) (λ operators told. told ≡ given values operators) in
+    let given : List (List ℕ) × List ℕ → List lgc.Operator → List lgcq.Quantifier → Result Spec SpecFault = λ values operators quantifiers. Ok (record { name = logic_name bytes (first_some name_in statements); values = values.0; designated = mask_of values.1; operators = operators; quantifiers = quantifiers }) in
+    let last : List (List ℕ) × List ℕ → List Ordered → List lgc.Operator → Result Spec SpecFault → Type 0 = λ values orderings operators. Then (QuantifiersGive bytes values.0 orderings operators statements) (λ quantifiers told. told ≡ given values operators quantifiers) in
+    let behind : List (List ℕ) × List ℕ → List Ordered → Result Spec SpecFault → Type 0 = λ values orderings. Then (OperatorsGive bytes values.0 orderings statements) (last values orderings) in
     follows_once (values_given bytes statements) (λ values. Then (OrderingsGive bytes values.0 statements) (behind values)) (λ values _.
     then_once (OrderingsGive bytes values.0 statements) (behind values) (orderings_once bytes values.0 statements) (λ orderings are.
-    then_once (OperatorsGive bytes values.0 orderings statements) (λ operators told. told ≡ given values operators) (operators_once bytes values.0 orderings (orderings_are bytes values.0 statements orderings are) statements) (λ operators _.
-    told_once (given values operators))))
+    let orders = orderings_are bytes values.0 statements orderings are in
+    then_once (OperatorsGive bytes values.0 orderings statements) (last values orderings) (operators_once bytes values.0 orderings orders statements) (λ operators _.
+    then_once (QuantifiersGive bytes values.0 orderings operators statements) (λ quantifiers told. told ≡ given values operators quantifiers) (quantifiers_once bytes values.0 orderings orders operators statements) (λ quantifiers _.
+    told_once (given values operators quantifiers)))))
 
 -- what bytes give is one answer
 pub one_answer : (bytes : List ℕ) → OneAnswer (BytesGive bytes)

@@ -27,16 +27,16 @@ number_above digits i arity digit bound lt so_far is above =
     let grown = number_grows (number_of (take (i + 1) digits)) (drop (i + 1) digits) in
     omega arith
 
-any_map : (name : List ℕ) (operators : List Operator) → is_among (map (λ o. o.name) operators) name ≡ list_any (λ o. bytes_eq o.name name) operators
-any_map name [] = refl
-any_map name (o ∷ operators) = ap (λ b. bytes_eq o.name name || b) (any_map name operators)
+pub any_map : {X : Type 0} (text : X → List ℕ) (name : List ℕ) (xs : List X) → is_among (map text xs) name ≡ list_any (λ x. bytes_eq (text x) name) xs
+any_map text name [] = refl
+any_map text name (x ∷ xs) = ap (λ b. bytes_eq (text x) name || b) (any_map text name xs)
 
 -- a name behind fewer operators than a file may have
 pub name_fault-is : (bytes : List ℕ) (operators : List Operator) (w : Word) (text : List ℕ) (any is : Bool) → length operators < 64 → text ≡ text_of bytes w → any ≡ list_any (λ o. bytes_eq o.name text) operators → any ≡ is → name_fault bytes (map (λ o. o.name) operators) w ≡ cond is (Some (fault_at 10 w.at)) None
 name_fault-is bytes operators w text any is few e a t =
     let size : length (map (λ o. o.name) operators) ≡ length operators = length-map operators (λ o. o.name) in
     let room : nat_le 64 (length (map (λ o. o.name) operators)) ≡ false = rw size (too_few (length operators) few) in
-    let now : is_among (map (λ o. o.name) operators) (text_of bytes w) ≡ is = rw (← e) (any_map text operators ∙ sym a ∙ t) in
+    let now : is_among (map (λ o. o.name) operators) (text_of bytes w) ≡ is = rw (← e) (any_map (λ o. o.name) text operators ∙ sym a ∙ t) in
     rw (room, now) refl where
       too_few : (n : ℕ) → n < 64 → nat_le 64 n ≡ false
       too_few n lt = grind (arith, nat_tests)

@@ -1,7 +1,7 @@
 -- What the definition of an operator gives is an operator of a logic.
 use Rattle.std.proofs.Common.{◌≡◌, ℕ, ◌+◌, ◌*◌, ◌^◌, ◌/◌, ◌%◌, ◌<◌, Bool, true, false, cond, List, length, map, get_or, All, Option, Some, None, option_map, Result, Ok, Err, refl, sym, ap, ◌∙◌, arith}
 use Rattle.std.specs.Prelude.{nat_lt, nat_le, unwrap_or, ◌==◌}
-use Rattle.std.specs.List.{position_or_len, range_with_len}
+use Rattle.std.specs.List.{position_or_len, range_with_len, filter_map}
 use Rattle.std.specs.Str.{bytes_eq}
 use Rattle.std.proofs.lemmas.Bool.{ltb-true, leb-true, eqb-true, and_parts}
 use Rattle.std.proofs.Math.Nat.{pow-suc, pow-zero}
@@ -13,6 +13,7 @@ use Rattle.lgc_values.specs.declared.matrix.Operator as lgc
 use Rattle.lgc_values.specs.Logic.{IsOperator, IsPlainName}
 use Rattle.lgc_parser.specs.declared.tree.Word.{Word}
 use Rattle.lgc_parser.specs.declared.tree.Row.{Row}
+use Rattle.lgc_parser.specs.declared.tree.Statement.{Statement}
 use Rattle.lgc_parser.specs.declared.tree.OpBody.{OpBody}
 use Rattle.lgc_parser.specs.declared.tree.OpBody.TheVariants.{Mapping, Table, Bound}
 use Rattle.lgc_spec.specs.declared.fault.SpecFault.{SpecFault}
@@ -24,7 +25,9 @@ use Rattle.lgc_spec.specs.Tables.{cell_at, heading_place, place_of, misshapen, h
 use Rattle.lgc_spec.specs.Bounds.{IsBound, BoundsGive, BoundGives, not_binary, found, ordering_named}
 use Rattle.lgc_spec.specs.Orderings.{Ordered}
 use Rattle.lgc_orders.specs.Order.{Leads}
-use Rattle.lgc_spec.specs.Operators.{number_of, too_wide, name_fault, arity_given, head_given, BodyGives, OperatorGives}
+use Rattle.lgc_spec.specs.Folds.{HasRows}
+use Rattle.lgc_spec.specs.Operators.{number_of, too_wide, name_fault, arity_given, head_given, BodyGives, OperatorGives, OperatorsGive, operator_in}
+use Rattle.lgc_spec.proofs.OneInTurn.{parts_are}
 
 -- ---- steps that have no fault
 
@@ -60,28 +63,23 @@ below : (p n : ℕ) (b : Bool) → nat_lt p n ≡ b → 0 < n → unwrap_or (con
 below p n true e some = ltb-true p n e
 below p n false e some = some
 
-value_below : (bytes : List ℕ) (names : List (List ℕ)) (w : Word) → 0 < length names → value_of bytes names w < length names
+pub value_below : (bytes : List ℕ) (names : List (List ℕ)) (w : Word) → 0 < length names → value_of bytes names w < length names
 value_below bytes names w some = below (position_or_len (λ name. bytes_eq name (text_of bytes w)) names) (length names) (nat_lt (position_or_len (λ name. bytes_eq name (text_of bytes w)) names) (length names)) refl some
 
-result_below : (bytes : List ℕ) (names : List (List ℕ)) (row : Option Row) → 0 < length names → unwrap_or (option_map (λ r. value_of bytes names r.value) row) 0 < length names
+pub result_below : (bytes : List ℕ) (names : List (List ℕ)) (row : Option Row) → 0 < length names → unwrap_or (option_map (λ r. value_of bytes names r.value) row) 0 < length names
 result_below bytes names None some = some
 result_below bytes names (Some row) some = value_below bytes names row.value some
 
-bound_below : (lower : Bool) (n : ℕ) (le : ℕ → ℕ → Type 0) (a b c : ℕ) → IsBound lower n le a b c → c < n
+pub bound_below : (lower : Bool) (n : ℕ) (le : ℕ → ℕ → Type 0) (a b c : ℕ) → IsBound lower n le a b c → c < n
 bound_below true n le a b c h = h.within
 bound_below false n le a b c h = h.within
 
 -- ---- tables
 
--- a table has a value at each row
-pub record HasRows (n arity : ℕ) (table : List ℕ) : Type 0 where
-  pub rows : length table ≡ n ^ arity
-  pub entries : All (λ v. v < n) table
-
 mapped : (n arity count : ℕ) (f : ℕ → ℕ) (table : List ℕ) → count ≡ n ^ arity → ((row : ℕ) → f row < n) → table ≡ map f (range_with_len 0 count) → HasRows n arity table
 mapped n arity count f table size within is = rw is (record { rows = length-map-range_with_len f 0 count ∙ size; entries = All-map (λ v. v < n) f (range_with_len 0 count) (λ k d lt. within (get_or (range_with_len 0 count) k d)) })
 
-square : (n arity : ℕ) → arity ≡ 2 → n * n ≡ n ^ arity
+pub square : (n arity : ℕ) → arity ≡ 2 → n * n ≡ n ^ arity
 square n arity e = rw e (two n) where
   two : (m : ℕ) → m * m ≡ m ^ 2
   two m =
@@ -123,6 +121,18 @@ module _ (bytes : List ℕ) (names : List (List ℕ)) (some : 0 < length names) 
   body_rows orderings arity (Mapping rows close) table h = mapping_rows arity close rows table h
   body_rows orderings arity (Table at cells) table h = table_rows arity at cells table h
   body_rows orderings arity (Bound at lower ordering) table h = bound_rows orderings arity at lower ordering table h
+
+  -- an operator has a value at each row
+  operator_rows : (orderings : List Ordered) (before : List (Word × Word × OpBody)) (operator : Word × Word × OpBody) (told : lgc.Operator) → OperatorGives bytes names orderings before operator (Ok told) → HasRows (length names) told.arity told.table
+  operator_rows orderings before operator told h =
+      let n = length names in
+      let (arity, head, behind) = follows_ok (head_given bytes n (map (λ o. text_of bytes o.0) before) operator.0 operator.1) _ told h in
+      let (table, body, is) = then_ok (BodyGives bytes names orderings arity operator.2) _ told behind in
+      let it : told ≡ record { name = text_of bytes operator.0; arity = arity; table = table } = cc in
+      rw it (body_rows orderings arity operator.2 table body)
+
+  pub operators_rows : (orderings : List Ordered) (statements : List Statement) (operators : List lgc.Operator) → OperatorsGive bytes names orderings statements (Ok operators) → All (λ o. HasRows (length names) o.arity o.table) operators
+  operators_rows orderings statements operators h = parts_are (OperatorGives bytes names orderings) (λ o. HasRows (length names) o.arity o.table) (operator_rows orderings) (filter_map operator_in statements) operators h
 
   -- an operator with a plain name is one of a logic
   pub operator_is : (orderings : List Ordered) (before : List (Word × Word × OpBody)) (operator : Word × Word × OpBody) (told : lgc.Operator) → IsPlainName (text_of bytes operator.0) → OperatorGives bytes names orderings before operator (Ok told) → IsOperator (length names) told

@@ -60,7 +60,7 @@ passes_wider Memory b u a e p = p
 passes_wider (Fault number offset kept) true u a e p = rw p refl
 passes_wider (Fault number offset kept) false u a e p = p
 
-passes_found : {X : Type 0} (fault : List X → X → Option SpecFault) (xs : List X) (i : ℕ) (x : X) (f : SpecFault) → i < length xs → x ≡ get_or xs i x → first_fault fault (take i xs) ≡ None → Passes (Err f) (fault (take i xs) x) → Passes (Err f) (first_fault fault xs)
+pub passes_found : {X : Type 0} (fault : List X → X → Option SpecFault) (xs : List X) (i : ℕ) (x : X) (f : SpecFault) → i < length xs → x ≡ get_or xs i x → first_fault fault (take i xs) ≡ None → Passes (Err f) (fault (take i xs) x) → Passes (Err f) (first_fault fault xs)
 passes_found fault xs i x Memory lt e none p = p
 passes_found fault xs i x (Fault number offset kept) lt e none p =
     first_fault_found fault xs i x (Fault number offset kept) lt none (ap (fault (take i xs)) (sym e) ∙ p)

@@ -1,9 +1,10 @@
 -- From the steps of the reader to what they tell together.
-use Rattle.std.proofs.Common.{◌≡◌, ℕ, ◌<◌, ◌≤◌, ◌^◌, List, [], length, None, Result, Ok, Err, refl, sym, ◌∙◌, subst}
+use Rattle.std.proofs.Common.{◌≡◌, ℕ, ◌<◌, ◌≤◌, ◌^◌, List, length, Result, Ok, Err, refl}
 use Rattle.std.proofs.lemmas.Bool.{le-ltb}
 use Rattle.lgc_values.specs.Values.{members_of, mask_of}
 use Rattle.lgc_values.proofs.ValueLaws.{mask_law}
 use Rattle.lgc_values.specs.declared.matrix.Operator as lgc
+use Rattle.lgc_values.specs.declared.matrix.Quantifier as lgcq
 use Rattle.lgc_lexer.specs.declared.token.Token.{Token}
 use Rattle.lgc_parser.specs.declared.tree.Statement.{Statement}
 use Rattle.lgc_parser.specs.SpecGrammar as grammar
@@ -11,18 +12,19 @@ use Rattle.lgc_spec.specs.declared.spec.Spec.{Spec}
 use Rattle.lgc_spec.specs.declared.fault.SpecFault.{SpecFault}
 use Rattle.lgc_spec.specs.declared.fault.SpecFault.TheVariants.{Fault, Memory}
 use Rattle.lgc_spec.specs.declared.reading.TheConstants.{LONGEST_FILE}
-use Rattle.lgc_spec.specs.Faults.{Answers, Follows, Passes, Then}
+use Rattle.lgc_spec.specs.Faults.{Answers, Follows, Then}
 use Rattle.lgc_spec.specs.Statements.{first_some, name_in}
 use Rattle.lgc_spec.specs.Stands.{TreeGives}
 use Rattle.lgc_spec.specs.Texts.{tokens_given, Parses}
 use Rattle.lgc_spec.specs.Orderings.{Ordered, OrderingsGive}
 use Rattle.lgc_spec.specs.Operators.{OperatorsGive}
-use Rattle.lgc_spec.specs.Specification.{values_given, quantifier_in, logic_name, StatementsGive, BytesGive}
+use Rattle.lgc_spec.specs.Quantifiers.{QuantifiersGive}
+use Rattle.lgc_spec.specs.Specification.{values_given, logic_name, StatementsGive, BytesGive}
 
 -- ---- the statements
 
--- two steps are shown the names
-module _ (bytes : List ℕ) (statements : List Statement) (names shown again : List (List ℕ)) (set : List ℕ) (values : values_given bytes statements ≡ Ok (names, set)) (same : shown ≡ names) where
+-- the steps behind the values are shown the names
+module _ (bytes : List ℕ) (statements : List Statement) (names shown : List (List ℕ)) (set : List ℕ) (values : values_given bytes statements ≡ Ok (names, set)) (same : shown ≡ names) where
   given : values_given bytes statements ≡ Ok (shown, set)
   given = rw same values
 
@@ -30,26 +32,20 @@ module _ (bytes : List ℕ) (statements : List Statement) (names shown again : L
   orders_fail Memory h = tt
   orders_fail (Fault number offset kept) h = rw given (Err (Fault number offset kept), h, refl)
 
-  module _ (ordered : List Ordered) (orders : OrderingsGive bytes shown statements (Ok ordered)) (as_before : again ≡ names) where
-    shown_so : again ≡ shown
-    shown_so = as_before ∙ sym same
-
-    pub operators_fail : (f : SpecFault) → Answers (OperatorsGive bytes again ordered statements) (Err f) → Answers (StatementsGive bytes statements) (Err f)
+  module _ (ordered : List Ordered) (orders : OrderingsGive bytes shown statements (Ok ordered)) where
+    pub operators_fail : (f : SpecFault) → Answers (OperatorsGive bytes shown ordered statements) (Err f) → Answers (StatementsGive bytes statements) (Err f)
     operators_fail Memory h = tt
-    operators_fail (Fault number offset kept) h = rw given (Ok ordered, orders, (Err (Fault number offset kept), subst (λ ns. OperatorsGive bytes ns ordered statements (Err (Fault number offset kept))) shown_so h, refl))
+    operators_fail (Fault number offset kept) h = rw given (Ok ordered, orders, (Err (Fault number offset kept), h, refl))
 
-    module _ (operators : List lgc.Operator) (told : OperatorsGive bytes again ordered statements (Ok operators)) where
-      told_so : OperatorsGive bytes shown ordered statements (Ok operators)
-      told_so = subst (λ ns. OperatorsGive bytes ns ordered statements (Ok operators)) shown_so told
-
-      pub quantifiers_fail : (f : SpecFault) → Passes (Err f) (first_some quantifier_in statements) → Answers (StatementsGive bytes statements) (Err f)
+    module _ (operators listed : List lgc.Operator) (told : OperatorsGive bytes shown ordered statements (Ok operators)) (as_told : listed ≡ operators) where
+      pub quantifiers_fail : (f : SpecFault) → Answers (QuantifiersGive bytes shown ordered listed statements) (Err f) → Answers (StatementsGive bytes statements) (Err f)
       quantifiers_fail Memory h = tt
-      quantifiers_fail (Fault number offset kept) h = rw given (Ok ordered, orders, (Ok operators, told_so, rw h refl))
+      quantifiers_fail (Fault number offset kept) h = rw given (Ok ordered, orders, (Ok operators, told, (Err (Fault number offset kept), rw as_told at h, refl)))
 
-      pub logic_told : (mask : ℕ) (name : List ℕ) → first_some quantifier_in statements ≡ None → members_of (length names) mask ≡ set → mask < 2 ^ length names → name ≡ logic_name bytes (first_some name_in statements) → StatementsGive bytes statements (Ok (record { name = name; values = names; designated = mask; operators = operators; quantifiers = [] }))
-      logic_told mask name none members below named =
+      pub logic_told : (quantifiers : List lgcq.Quantifier) (mask : ℕ) (name : List ℕ) → QuantifiersGive bytes shown ordered listed statements (Ok quantifiers) → members_of (length names) mask ≡ set → mask < 2 ^ length names → name ≡ logic_name bytes (first_some name_in statements) → StatementsGive bytes statements (Ok (record { name = name; values = names; designated = mask; operators = operators; quantifiers = quantifiers }))
+      logic_told quantifiers mask name h members below named =
           let mask_is : mask_of set ≡ mask = mask_law (length names) mask set members below in
-          rw given (Ok ordered, orders, (Ok operators, told_so, rw (none, named, mask_is, same) refl))
+          rw given (Ok ordered, orders, (Ok operators, told, (Ok quantifiers, rw as_told at h, rw (named, mask_is, same) refl)))
 
 -- ---- the bytes
 

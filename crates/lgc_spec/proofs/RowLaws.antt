@@ -10,7 +10,7 @@ use Rattle.lgc_spec.specs.Words.{text_of, is_among, first_unknown}
 use Rattle.lgc_spec.specs.Rows.{width_fault}
 use Rattle.lgc_spec.proofs.FaultLaws.{Passes-front, Passes-back}
 
-first_unknown-append : (bytes : List ℕ) (names : List (List ℕ)) (xs ys : List Word) → first_unknown bytes names (xs ++ ys) ≡ option_or (first_unknown bytes names xs) (first_unknown bytes names ys)
+pub first_unknown-append : (bytes : List ℕ) (names : List (List ℕ)) (xs ys : List Word) → first_unknown bytes names (xs ++ ys) ≡ option_or (first_unknown bytes names xs) (first_unknown bytes names ys)
 first_unknown-append bytes names xs ys =
     let test : Word → Bool = λ w. not (is_among names (text_of bytes w)) in
     rw (find-append test xs ys) (mapped (find test xs) (find test ys)) where

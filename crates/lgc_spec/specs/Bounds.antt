@@ -1,6 +1,7 @@
--- Operators of two arguments by the bounds of an ordering.
-use Rattle.std.specs.Prelude.{◌≡◌, ℕ, ◌*◌, ◌/◌, ◌%◌, ◌<◌, ◌==◌, Bool, true, false, List, [], ◌∷◌, find, length, Option, Some, None, Result, Ok, Err, slice_index, if◌then◌else◌}
+-- Operators of two arguments and quantifiers by the bounds of an ordering.
+use Rattle.std.specs.Prelude.{◌≡◌, ℕ, ◌+◌, ◌-◌, ◌^◌, All, ◌*◌, ◌/◌, ◌%◌, ◌<◌, ◌==◌, Bool, true, false, List, [], ◌∷◌, find, length, Option, Some, None, Result, Ok, Err, slice_index, if◌then◌else◌}
 use Rattle.std.specs.Str.{bytes_eq}
+use Rattle.lgc_values.specs.Values.{members_of}
 use Rattle.lgc_orders.specs.Order.{Leads, IsInf, IsSup}
 use Rattle.lgc_parser.specs.declared.tree.Word.{Word}
 use Rattle.lgc_spec.specs.declared.fault.SpecFault.{SpecFault}
@@ -44,3 +45,36 @@ ordering_named bytes orderings word = find (λ o. bytes_eq o.name (text_of bytes
 abbrev pub BoundGives : List ℕ → List (List ℕ) → List Ordered → ℕ → ℕ → Bool → Word → Result (List ℕ) SpecFault → Type 0
 BoundGives bytes names orderings arity at lower word =
     Follows (unless (not_binary arity at) (found word (ordering_named bytes orderings word))) (λ ordered. BoundsGive lower names at (Leads ordered.links))
+
+-- ---- the bounds of sets
+
+-- c is below all values of a set, and the greatest such value
+pub record IsSetInf (n : ℕ) (le : ℕ → ℕ → Type 0) (set : List ℕ) (c : ℕ) : Type 0 where
+  pub within : c < n
+  pub bound : All (λ v. le c v) set
+  pub greatest : (d : ℕ) → d < n → All (λ v. le d v) set → le d c
+
+-- c is above all values of a set, and the least such value
+pub record IsSetSup (n : ℕ) (le : ℕ → ℕ → Type 0) (set : List ℕ) (c : ℕ) : Type 0 where
+  pub within : c < n
+  pub bound : All (λ v. le v c) set
+  pub least : (d : ℕ) → d < n → All (λ v. le v d) set → le c d
+
+-- c is the greatest lower, or the least upper bound of a set
+abbrev pub IsSetBound : Bool → ℕ → (ℕ → ℕ → Type 0) → List ℕ → ℕ → Type 0
+IsSetBound true n le set c = IsSetInf n le set c
+IsSetBound false n le set c = IsSetSup n le set c
+
+-- Any two values have a bound, and the table has that of each nonempty set; or the first two values that have none are a fault,
+-- as for operators.
+abbrev pub SetBoundsGive : Bool → List (List ℕ) → ℕ → (ℕ → ℕ → Type 0) → Result (List ℕ) SpecFault → Type 0
+SetBoundsGive lower names at le (Ok table) =
+    let n = length names in
+    ((row : ℕ) → row < n * n → HasBound lower n le row)
+    × (length table ≡ 2 ^ n - 1) × ((index : ℕ) → index < 2 ^ n - 1 → IsSetBound lower n le (members_of n (index + 1)) (slice_index table index))
+SetBoundsGive lower names at le (Err fault) = BoundsGive lower names at le (Err fault)
+
+-- what the bounds of an ordering give for a quantifier
+abbrev pub SetBoundGives : List ℕ → List (List ℕ) → List Ordered → ℕ → Bool → Word → Result (List ℕ) SpecFault → Type 0
+SetBoundGives bytes names orderings at lower word =
+    Follows (found word (ordering_named bytes orderings word)) (λ ordered. SetBoundsGive lower names at (Leads ordered.links))

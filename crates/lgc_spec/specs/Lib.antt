@@ -13,5 +13,11 @@ pub mod Orderings
 pub mod KeptOrders
 pub mod Bounds
 pub mod Operators
+pub mod Sets
+pub mod Distributions
+pub mod ToldSets
+pub mod Folds
+pub mod Inductions
+pub mod Quantifiers
 pub mod Specification
 pub mod OrderTexts

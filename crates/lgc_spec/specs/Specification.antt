@@ -3,11 +3,10 @@ use Rattle.std.specs.Prelude.{◌≡◌, ℕ, nat_lt, List, [], length, Option, 
 use Rattle.lgc_values.specs.Values.{mask_of}
 use Rattle.lgc_parser.specs.declared.tree.Word.{Word}
 use Rattle.lgc_parser.specs.declared.tree.Statement.{Statement}
-use Rattle.lgc_parser.specs.declared.tree.Statement.TheVariants.{Quantifier}
 use Rattle.lgc_parser.specs.SpecGrammar as grammar
 use Rattle.lgc_spec.specs.declared.spec.Spec.{Spec}
 use Rattle.lgc_spec.specs.declared.fault.SpecFault.{SpecFault}
-use Rattle.lgc_spec.specs.declared.fault.TheConstants.{FILE_TOO_LONG, NOT_BUILT}
+use Rattle.lgc_spec.specs.declared.fault.TheConstants.{FILE_TOO_LONG}
 use Rattle.lgc_spec.specs.declared.reading.TheConstants.{LONGEST_FILE}
 use Rattle.lgc_spec.specs.Faults.{fault_at, unless, ◌>>=◌, Follows, Then}
 use Rattle.lgc_spec.specs.Words.{text_of}
@@ -16,6 +15,7 @@ use Rattle.lgc_spec.specs.Values.{names_given, designated_given}
 use Rattle.lgc_spec.specs.Texts.{tokens_given, Parses}
 use Rattle.lgc_spec.specs.Orderings.{OrderingsGive}
 use Rattle.lgc_spec.specs.Operators.{OperatorsGive}
+use Rattle.lgc_spec.specs.Quantifiers.{QuantifiersGive}
 
 -- the file is too long, at the limit
 abbrev pub too_long : List ℕ → Option SpecFault
@@ -36,19 +36,14 @@ abbrev pub logic_name : List ℕ → Option Word → List ℕ
 logic_name bytes None = []
 logic_name bytes (Some word) = text_of bytes word
 
--- a quantifier is a fault as long as none is read, at its name
-abbrev pub quantifier_in : Statement → Option SpecFault
-quantifier_in (Quantifier name _) = Some (fault_at NOT_BUILT name.at)
-quantifier_in _ = None
-
 -- what the statements of a file give
 abbrev pub StatementsGive : List ℕ → List Statement → Result Spec SpecFault → Type 0
 StatementsGive bytes statements =
     Follows (values_given bytes statements) (λ values.
     Then (OrderingsGive bytes values.0 statements) (λ orderings.
-    Then (OperatorsGive bytes values.0 orderings statements) (λ operators told.
-    told ≡ unless (first_some quantifier_in statements)
-    (Ok (record { name = logic_name bytes (first_some name_in statements); values = values.0; designated = mask_of values.1; operators = operators; quantifiers = [] })))))
+    Then (OperatorsGive bytes values.0 orderings statements) (λ operators.
+    Then (QuantifiersGive bytes values.0 orderings operators statements) (λ quantifiers told.
+    told ≡ Ok (record { name = logic_name bytes (first_some name_in statements); values = values.0; designated = mask_of values.1; operators = operators; quantifiers = quantifiers })))))
 
 -- what the bytes of a file give, by steps: the length, the tokens, the grammar, and then the statements
 abbrev pub BytesGive : List ℕ → Result Spec SpecFault → Type 0

@@ -1,15 +1,17 @@
-// Operators of two arguments by the bounds of an ordering.
-ghost use Rattle.std.specs.Prelude.{◌≡◌, ◌<◌, ◌≤◌, ℕ, List, All, length, MatchOption};
+// Operators of two arguments and quantifiers by the bounds of an ordering.
+ghost use Rattle.std.specs.Prelude.{◌≡◌, ◌<◌, ◌≤◌, ℕ, List, All, length, MatchOption, IfOk};
 ghost use Rattle.lgc_values.specs.declared.TheConstants.{MOST_VALUES};
 ghost use Rattle.lgc_orders.specs.Order.{Below};
 ghost use Rattle.lgc_spec.specs.Faults.{Answers};
 ghost use Rattle.lgc_spec.specs.Words.{LiesIn};
 ghost use Rattle.lgc_spec.specs.Orderings.{Ordered};
 ghost use Rattle.lgc_spec.specs.KeptOrders.{AreKept};
-ghost use Rattle.lgc_spec.specs.Bounds.{IsBound, BoundsGive, BoundGives};
+ghost use Rattle.lgc_spec.specs.Folds.{HasRows};
+ghost use Rattle.lgc_spec.specs.Bounds.{IsBound, BoundsGive, BoundGives, SetBoundGives};
 
 use crate::fault::{NO_BOUND, SpecFault, TABLE_SHAPE, UNKNOWN_ORDERING, fault_at, keeping};
 use crate::orderings::{NamedOrder, find_order};
+use crate::sets::folds;
 use crate::words::{pair_names, text_of};
 use lgc_orders::Order;
 use lgc_parser::Word;
@@ -40,7 +42,8 @@ fn bounds_given(
 ) -> Result<List<u8>, SpecFault>
     requires size { order.now.size ≡ length names.now }
     requires few { length names.now ≤ MOST_VALUES }
-    ensures { Answers (BoundsGive lower names.now at (Below order.now)) result }
+    ensures bounds { Answers (BoundsGive lower names.now at (Below order.now)) result }
+    ensures rows { IfOk result (HasRows (length names.now) 2) }
 {
     let n = names.len();
     let mut table = List::new(alloc);
@@ -69,8 +72,9 @@ pub(crate) fn bound_given(
     requires orders { All (λ o. LiesIn (length bytes.now) o.name) orders.now }
     requires sizes { All (λ o. o.order.size ≡ length names.now) orders.now }
     requires few { length names.now ≤ MOST_VALUES }
-    ensures { (orderings : List Ordered) → AreKept bytes.now (length names.now) orders.now orderings
+    ensures gives { (orderings : List Ordered) → AreKept bytes.now (length names.now) orders.now orderings
         → Answers (BoundGives bytes.now names.now orderings arity at lower ordering.now) result }
+    ensures rows { IfOk result (HasRows (length names.now) 2) }
 {
     if arity != 2 {
         return Err(fault_at(TABLE_SHAPE, at));
@@ -79,4 +83,25 @@ pub(crate) fn bound_given(
         Some(place) => bounds_given(alloc, names, &orders[place].order, at, lower),
         None => Err(fault_at(UNKNOWN_ORDERING, ordering.at)),
     }
+}
+
+/// The table of a quantifier by the bounds of the ordering that a word names. The word `inf` or `sup` is at `at`.
+pub(crate) fn set_bound_given(
+    alloc: Global,
+    bytes: &[u8],
+    names: &[Name],
+    orders: &[NamedOrder],
+    at: u32,
+    lower: bool,
+    ordering: &Word,
+) -> Result<List<u8>, SpecFault>
+    requires word { LiesIn (length bytes.now) ordering.now }
+    requires orders { All (λ o. LiesIn (length bytes.now) o.name) orders.now }
+    requires sizes { All (λ o. o.order.size ≡ length names.now) orders.now }
+    requires few { length names.now ≤ MOST_VALUES }
+    ensures { (orderings : List Ordered) → AreKept bytes.now (length names.now) orders.now orderings
+        → Answers (SetBoundGives bytes.now names.now orderings at lower ordering.now) result }
+{
+    let pairs = bound_given(alloc, bytes, names, orders, 2, at, lower, ordering)?;
+    Ok(folds(alloc, names.len(), pairs.items())?)
 }

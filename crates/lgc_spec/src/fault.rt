@@ -46,10 +46,18 @@ pub(crate) const CYCLE: u8 = 19;
 
 pub(crate) const NO_BOUND: u8 = 20;
 
+pub(crate) const UNKNOWN_OPERATOR: u8 = 21;
+
+pub(crate) const NOT_SEMILATTICE: u8 = 22;
+
+pub(crate) const EMPTY_DISTRIBUTION: u8 = 23;
+
+pub(crate) const DUPLICATE_DISTRIBUTION: u8 = 24;
+
+pub(crate) const MISSING_DISTRIBUTION: u8 = 25;
+
 /// The number of the fault of a file that is too long.
 pub const FILE_TOO_LONG: u8 = 26;
-
-pub(crate) const NOT_BUILT: u8 = 27;
 
 /// A law that an operator may break.
 #[derive(Clone, Copy, Debug, PartialEq, Eq)]

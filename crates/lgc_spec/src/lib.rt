@@ -5,15 +5,23 @@
 //!
 //! `specs/Specification.antt` says what the bytes give, by steps in the order of refusals. Each step has a definition of
 //! its own, which is its first fault or the part of the logic that it gives, and one private function.
+//!
+//! A quantifier has a value for each nonempty set of truth values. It is written row by row, or it is the bound of the set in
+//! an ordering, or the fold of an operator over the set. Such an operator is idempotent, commutative and associative, and
+//! `proofs/SemilatticeLaws.antt` proves that the order of the values then doesn't matter.
 #![tactic(auto)]
 
 mod bounds;
+mod distribution;
 mod fault;
+mod induced;
 mod mapping;
 mod matrix;
 mod operators;
 mod orderings;
+mod quantifiers;
 mod reading;
+mod sets;
 mod spec;
 mod statements;
 mod table;

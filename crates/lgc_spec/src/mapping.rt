@@ -74,8 +74,8 @@ fn put_rows(
     Ok(())
 }
 
-// The names of the arguments of a row, given by its index.
-fn argument_names(
+/// The names of the arguments of a row, given by its index.
+pub(crate) fn argument_names(
     alloc: Global,
     names: &[Name],
     arity: u8,

@@ -23,8 +23,8 @@ use std::alloc::Global;
 /// The greatest number of operators of a specification.
 pub(crate) const MOST_OPERATORS: usize = 64;
 
-// The number that digits write, where it is small enough for an arity.
-fn arity_of(digits: &[u8]) -> Option<u8>
+/// The number that digits write, where it is small enough for an arity.
+pub(crate) fn arity_of(digits: &[u8]) -> Option<u8>
     ensures { MatchOption result (MOST_ARGUMENTS < number_of digits.now)
         (λ arity. (arity ≡ number_of digits.now) × (arity ≤ MOST_ARGUMENTS)) }
 {
@@ -52,7 +52,8 @@ fn arity_given(bytes: &[u8], n: usize, word: &Word) -> Result<u8, SpecFault>
     }
 }
 
-fn has_operator(operators: &[Operator], name: &[u8]) -> bool
+/// Whether an operator has this name.
+pub(crate) fn has_operator(operators: &[Operator], name: &[u8]) -> bool
     ensures { result ≡ list_any (λ o. bytes_eq o.name name.now) operators.now }
 {
     operators

@@ -1,6 +1,5 @@
 // Orderings: names, and links between values.
-ghost use Rattle.std.specs.Prelude.{◌≡◌, ◌==◌, ◌<◌, ◌≤◌, ◌+◌, ◌^◌, ◌++◌, ℕ, List, length, map, position, All, IfSome, IfOk, OnOk};
-ghost use Rattle.std.specs.Int.{bit_at};
+ghost use Rattle.std.specs.Prelude.{◌≡◌, ◌<◌, ◌≤◌, ◌+◌, ◌^◌, ◌++◌, ℕ, List, length, map, position, All, IfSome, IfOk, OnOk};
 ghost use Rattle.std.specs.List.{flat_map};
 ghost use Rattle.std.specs.Str.{bytes_eq};
 ghost use Rattle.lgc_values.specs.declared.TheConstants.{MOST_VALUES};
@@ -16,12 +15,13 @@ ghost use Rattle.lgc_spec.specs.Orderings.{ordering_in, pairs_of, chain_links, l
 use crate::fault::{
     CYCLE, DUPLICATE_NAME, SpecFault, UNEXPECTED, UNKNOWN_VALUE, fault_at, keeping,
 };
+use crate::sets::has;
 use crate::texts::tokens_given;
 use crate::values::mask_named;
 use crate::words::{is_among, pair_names, text_of};
 use lgc_orders::{Order, OrderFault};
 use lgc_parser::{Statement, SyntaxFault, Word, parse_order};
-use lgc_values::{List, MOST_VALUES, Name};
+use lgc_values::{List, Name};
 use std::alloc::{AllocError, Global};
 use std::collections::BTreeSet;
 
@@ -77,14 +77,6 @@ fn unknown_word(text: &[u8], names: &[Name], chains: &[List<List<Word>>]) -> Opt
         }
     }
     None
-}
-
-// Whether a value is in the set with this mask.
-fn has(mask: u16, value: u8) -> bool
-    requires { value < MOST_VALUES }
-    ensures { result ≡ (bit_at mask value == 1) }
-{
-    mask >> value & 1 == 1
 }
 
 // Adds the links from a value to each of the right set, which is given by its mask.

@@ -1,21 +1,21 @@
 // Reading specifications: the steps, one after another.
-ghost use Rattle.std.specs.Prelude.{◌≡◌, All, IfSome, option_map, ◌<◌, ◌≤◌, ◌^◌, length, IfOk, Result};
+ghost use Rattle.std.specs.Prelude.{◌≡◌, All, IfSome, ◌<◌, ◌≤◌, ◌^◌, length, IfOk, Result};
 ghost use Rattle.lgc_values.specs.declared.TheConstants.{MOST_VALUES};
 ghost use Rattle.lgc_values.specs.Values.{members_of};
 ghost use Rattle.lgc_values.specs.Logic.{IsLogic};
 ghost use Rattle.lgc_parser.specs.TreeWords.{StatementDeclares, StatementHas};
 ghost use Rattle.lgc_spec.specs.declared.spec.Spec.{Spec};
 ghost use Rattle.lgc_spec.specs.declared.fault.SpecFault.{SpecFault};
-ghost use Rattle.lgc_spec.specs.Faults.{Answers, Gives, Passes, fault_at};
+ghost use Rattle.lgc_spec.specs.Faults.{Answers, Gives};
 ghost use Rattle.lgc_spec.specs.Logics.{logic_of};
 ghost use Rattle.lgc_spec.specs.Words.{LiesIn, SaysPlainName};
-ghost use Rattle.lgc_spec.specs.Statements.{first_some};
 ghost use Rattle.lgc_spec.specs.Stands.{AnswersFor, TreeGives};
-ghost use Rattle.lgc_spec.specs.Specification.{BytesGive, StatementsGive, values_given, logic_name, quantifier_in};
+ghost use Rattle.lgc_spec.specs.Specification.{BytesGive, StatementsGive, values_given, logic_name};
 
-use crate::fault::{FILE_TOO_LONG, MISSING_STATEMENT, NOT_BUILT, SpecFault, UNEXPECTED, fault_at};
+use crate::fault::{FILE_TOO_LONG, MISSING_STATEMENT, SpecFault, UNEXPECTED, fault_at};
 use crate::operators::operators_given;
 use crate::orderings::orderings_given;
+use crate::quantifiers::quantifiers_given;
 use crate::spec::Spec;
 use crate::statements::{check_single, designated_values, logic_name, truth_values};
 use crate::texts::tokens_given;
@@ -79,28 +79,6 @@ fn name_of(alloc: Global, bytes: &[u8], word: Option<Word>) -> Result<Name, Allo
     }
 }
 
-// Where a quantifier's name stands.
-fn quantifier_place(statement: &Statement) -> Option<u32>
-    ensures { option_map (λ place. fault_at NOT_BUILT place) result ≡ quantifier_in statement.now }
-{
-    match statement {
-        Statement::Quantifier { name, .. } => Some(name.at),
-        _ => None,
-    }
-}
-
-// That no quantifier is written.
-fn check_quantifiers(statements: &[Statement]) -> Result<(), SpecFault>
-    ensures { Passes result (first_some quantifier_in statements.now) }
-{
-    for statement in statements {
-        if let Some(place) = quantifier_place(statement) {
-            return Err(fault_at(NOT_BUILT, place));
-        }
-    }
-    Ok(())
-}
-
 // The logic of the statements of a file.
 fn logic_given(alloc: Global, bytes: &[u8], statements: &[Statement]) -> Result<Spec, SpecFault>
     requires length { length bytes.now < 2 ^ 32 }
@@ -109,15 +87,23 @@ fn logic_given(alloc: Global, bytes: &[u8], statements: &[Statement]) -> Result<
     ensures below { IfOk result (λ spec. spec.designated < 2 ^ length spec.values) }
 {
     let (values, designated) = values_given(alloc, bytes, statements)?;
-    let orders = orderings_given(alloc, bytes, values.items(), statements)?;
-    let operators = operators_given(alloc, bytes, values.items(), &orders, statements)?;
-    check_quantifiers(statements)?;
+    let names = values.items();
+    let orders = orderings_given(alloc, bytes, names, statements)?;
+    let operators = operators_given(alloc, bytes, names, &orders, statements)?;
+    let quantifiers = quantifiers_given(
+        alloc,
+        bytes,
+        names,
+        &orders,
+        operators.items(),
+        statements,
+    )?;
     Ok(Spec {
         name: name_of(alloc, bytes, logic_name(statements))?,
         values,
         designated,
         operators,
-        quantifiers: List::new(alloc),
+        quantifiers,
     })
 }
 

@@ -1,6 +1,6 @@
 -- How a run ends, from its answer and the put of its bytes.
-use Rattle.std.proofs.Common.{◌≡◌, ℕ, ◌<◌, length, Bool, true, false, List, [], ◌++◌, Some, None, Result, Ok, Err, refl, sym, ap, subst, ◌∙◌, inl, inr, arith}
-use Rattle.std.specs.Prelude.{◌⊎◌, Option, nat_lt}
+use Rattle.std.proofs.Common.{◌≡◌, ℕ, ◌<◌, length, Bool, true, false, List, [], ◌++◌, Some, None, Result, Err, refl, sym, ap, subst, ◌∙◌, inl, inr, arith}
+use Rattle.std.specs.Prelude.{Option, nat_lt}
 use Rattle.std.proofs.lemmas.Bool.Decides.{nat_tests}
 use Rattle.std.specs.Option.{option_map}
 use Rattle.std.proofs.lemmas.Grind.{common_steps}
@@ -17,10 +17,13 @@ use Rattle.lgc_syntax.specs.declared.fault.InputFault.TheVariants as input
 use Rattle.lgc_syntax.specs.declared.fault.TheConstants as syntax
 use Rattle.lgc_top.specs.declared.status.Status.{Status}
 use Rattle.lgc_top.specs.declared.status.Status.TheVariants.{Done, Usage, BadSpec, BadInput, Rejected, ReadFault, WriteFault, Memory}
-use Rattle.lgc_top.specs.declared.answer.TheConstants.{LONGEST_RULES}
-use Rattle.lgc_top.specs.Verify.{RulesGiven}
+use Rattle.lgc_rules.specs.declared.file.TheConstants as rules
+use Rattle.lgc_top.specs.Verify.{RulesGiven, IsVerdictText}
+use Rattle.lgc_top.specs.Steps.{verdict_status}
+use Rattle.lgc_spec.specs.declared.spec.Spec.{Spec}
+use Rattle.lgc_spec.specs.Logics.{logic_of}
 use Rattle.lgc_top.specs.Commands.{Command, Calculus, Verify, command_of}
-use Rattle.lgc_top.specs.Run.{Run, Ends, Answers, WordsAnswer, Puts, AfterPut, goes_out, PrintsCalculus, PrintsVerdicts}
+use Rattle.lgc_top.specs.Run.{Run, HasInput, CommandAnswers, Ends, Answers, WordsAnswer, Puts, AfterPut, goes_out, PrintsCalculus, PrintsVerdicts}
 
 -- a put of no bytes leaves a sink as it was
 pub takes_nothing : (state : SinkState) → Takes state state []
@@ -106,11 +109,16 @@ abbrev told_fault : (n number offset : ℕ) → Result (List (Rule n)) InputFaul
 told_fault n number offset = Err (input.Fault number offset)
 
 -- a rule file that is too long has this fault
-pub long_rules : (logic : Logic) (bytes : List ℕ) → LONGEST_RULES < length bytes → RulesGiven logic bytes (told_fault logic.size syntax.FILE_TOO_LONG LONGEST_RULES)
+pub long_rules : (logic : Logic) (bytes : List ℕ) → rules.LONGEST_FILE < length bytes → RulesGiven logic bytes (told_fault logic.size syntax.FILE_TOO_LONG rules.LONGEST_FILE)
 long_rules logic bytes long =
-    let is : nat_lt LONGEST_RULES (length bytes) ≡ true = grind (arith, nat_tests) in
+    let is : nat_lt rules.LONGEST_FILE (length bytes) ≡ true = grind (arith, nat_tests) in
     record { grammar = rw is refl; exact = rw is refl }
 
 -- what an empty buffer gained is all that it holds
 pub all_gained : (old new bytes : List ℕ) → old ≡ [] → new ≡ old ++ bytes → bytes ≡ new
 all_gained old new bytes none gained = sym (gained ∙ ap (λ o. o ++ bytes) none)
+
+-- the lines on rules answer the words, under the status by whether all rules are right
+pub lines_answer : (file rules : List ℕ) (files files_after : FilesState) (spec : Spec) (bytes text : List ℕ) (right : Bool) (status : Status) → status ≡ verdict_status right → HasInput (Verify file rules) files spec bytes → IsVerdictText (logic_of spec) right bytes text → CommandAnswers (Verify file rules) files files_after status text
+lines_answer file rules files files_after spec bytes text true status is asked verdicts = rw is (spec, bytes, asked, verdicts)
+lines_answer file rules files files_after spec bytes text false status is asked verdicts = rw is (spec, bytes, asked, verdicts)

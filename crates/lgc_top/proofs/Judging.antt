@@ -1,9 +1,9 @@
 -- From the rules of a matrix to those of a logic.
-use Rattle.std.proofs.Common.{◌≡◌, ℕ, List, Bool, Result, Ok, Err, refl, sym, ap, subst, ◌∙◌}
+use Rattle.std.proofs.Common.{◌≡◌, ℕ, List, Bool, Result, Ok, Err, subst}
 use Rattle.std.specs.Prelude.{◌↔◌, IsTrue, All, map}
 use Rattle.lgc_values.specs.Logic.{Logic}
 use Rattle.lgc_clauses.specs.declared.rule.Rule.{Rule}
-use Rattle.lgc_clauses.specs.Exactness.{any_rule}
+use Rattle.lgc_clauses.specs.Kinds.{plain_rule}
 use Rattle.lgc_syntax.specs.declared.fault.InputFault.{InputFault}
 use Rattle.lgc_syntax.specs.declared.fault.InputFault.TheVariants.{Fault, Memory}
 use Rattle.lgc_rules.specs.Gives.{Holds, Tells}
@@ -18,10 +18,10 @@ abbrev told_fault : (n number offset : ℕ) → Result (List (Rule n)) InputFaul
 told_fault n number offset = Err (Fault number offset)
 
 module _ (n : ℕ) (m logic : Logic) (same : m ≡ logic) (size : m.size ≡ n) (bytes : List ℕ) where
-  pub judged : (right : Bool) (text : List ℕ) (rules : List (Rule n)) → FileGives n m bytes (Ok rules) → file_read n m bytes ≡ Ok rules → IsTrue right ↔ All (IsRight m) (map any_rule rules) → IsText m (map any_rule rules) text → IsVerdictText logic right bytes text
+  pub judged : (right : Bool) (text : List ℕ) (rules : List (Rule n)) → FileGives n m bytes (Ok rules) → file_read n m bytes ≡ Ok rules → IsTrue right ↔ All (IsRight m) (map plain_rule rules) → IsText m (map plain_rule rules) text → IsVerdictText logic right bytes text
   judged right text rules grammar exact decided printed =
       subst (λ (l : Logic). IsVerdictText l right bytes text) same
-      (subst (λ (n : ℕ). (rules : List (Rule n)) → FileGives n m bytes (Ok rules) → file_read n m bytes ≡ Ok rules → IsTrue right ↔ All (IsRight m) (map any_rule rules) → IsText m (map any_rule rules) text → IsVerdictText m right bytes text) size
+      (subst (λ (n : ℕ). (rules : List (Rule n)) → FileGives n m bytes (Ok rules) → file_read n m bytes ≡ Ok rules → IsTrue right ↔ All (IsRight m) (map plain_rule rules) → IsText m (map plain_rule rules) text → IsVerdictText m right bytes text) size
       (λ rules grammar exact decided printed. record { rules = rules; given = record { grammar = grammar; exact = exact }; decided = decided; printed = printed })
       rules grammar exact decided printed)
 

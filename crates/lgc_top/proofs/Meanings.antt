@@ -1,5 +1,5 @@
 -- The files of a command mean one status, the one that is answered.
-use Rattle.std.proofs.Common.{◌≡◌, ℕ, true, false, List, Some, None, Result, Ok, Err, refl, sym, ap, subst, ◌∙◌, inl, inr}
+use Rattle.std.proofs.Common.{◌≡◌, ℕ, true, false, List, Some, None, Result, Ok, Err, refl, sym, subst, ◌∙◌, inl, inr}
 use Rattle.std.specs.Prelude.{◌⊎◌, Option, IfSome, IsSomeAnd}
 use Rattle.lgc_io.specs.Files.{FilesState, Holds, file_at}
 use Rattle.lgc_io.specs.Sinks.{TakesPart}
@@ -15,8 +15,9 @@ use Rattle.lgc_syntax.specs.declared.fault.InputFault.{InputFault}
 use Rattle.lgc_rules.specs.RuleFile.{file_read}
 use Rattle.lgc_top.specs.declared.status.Status.{Status}
 use Rattle.lgc_top.specs.declared.status.Status.TheVariants.{Done, Usage, BadSpec, BadInput, Rejected, ReadFault, WriteFault, Memory}
-use Rattle.lgc_top.specs.Commands.{Command, Calculus, Verify, spec_of, input_of, command_of}
-use Rattle.lgc_top.specs.Run.{Run, Ends, Answers, CommandAnswers, WordsAnswer, Works, Puts, HasInput, Tells, RulesMean, SpecMeans, CommandMeans, Means, IsFaultless}
+use Rattle.lgc_top.specs.Commands.{Command, Calculus, Verify, spec_of}
+use Rattle.lgc_top.specs.Run.{Run, Ends, Answers, CommandAnswers, WordsAnswer, Works, Puts, HasInput}
+use Rattle.lgc_top.specs.Means.{Tells, RulesMean, SpecMeans, CommandMeans, Means, IsFaultless}
 
 -- what a file that is told holds is one list of bytes
 held_once : (files : FilesState) (file bytes other : List ℕ) → Holds files file bytes → Tells files file other → bytes ≡ other

@@ -1,5 +1,5 @@
 -- Steps on the way to an answer.
-use Rattle.std.proofs.Common.{◌≡◌, List, ℕ, Some, sym, subst}
+use Rattle.std.proofs.Common.{List, ℕ, Some, sym, subst}
 use Rattle.lgc_io.specs.Files.{FilesState, FailsAt}
 use Rattle.lgc_top.specs.declared.status.Status.{Status}
 use Rattle.lgc_top.specs.declared.status.Status.TheVariants.{ReadFault}

@@ -3,4 +3,5 @@ pub mod Calculus
 pub mod Verify
 pub mod Commands
 pub mod Run
+pub mod Means
 pub mod Steps

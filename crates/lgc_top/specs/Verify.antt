@@ -2,7 +2,7 @@
 use Rattle.std.specs.Prelude.{◌≡◌, ◌↔◌, ℕ, Bool, IsTrue, List, All, map, Result, Ok, Err}
 use Rattle.lgc_values.specs.Logic.{Logic}
 use Rattle.lgc_clauses.specs.declared.rule.Rule.{Rule}
-use Rattle.lgc_clauses.specs.Exactness.{any_rule}
+use Rattle.lgc_clauses.specs.Kinds.{plain_rule}
 use Rattle.lgc_syntax.specs.declared.fault.InputFault.{InputFault}
 use Rattle.lgc_syntax.specs.declared.fault.InputFault.TheVariants.{Fault, Memory}
 use Rattle.lgc_rules.specs.RuleFile.{FileGives, file_read}
@@ -18,8 +18,8 @@ pub record RulesGiven (logic : Logic) (bytes : List ℕ) (told : Result (List (R
 pub record IsVerdictText (logic : Logic) (right : Bool) (bytes text : List ℕ) : Type 0 where
   pub rules : List (Rule logic.size)
   pub given : RulesGiven logic bytes (Ok rules)
-  pub decided : IsTrue right ↔ All (IsRight logic) (map any_rule rules)
-  pub printed : IsText logic (map any_rule rules) text
+  pub decided : IsTrue right ↔ All (IsRight logic) (map plain_rule rules)
+  pub printed : IsText logic (map plain_rule rules) text
 
 -- the lines on the rules of a rule file, and whether all rules are right; or its first fault
 abbrev pub JudgesBytes : Logic → List ℕ → Result Judged InputFault → Type 0

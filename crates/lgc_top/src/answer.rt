@@ -20,9 +20,6 @@ use lgc_spec::{Kept, Spec, SpecFault, read_spec};
 use lgc_syntax::InputFault;
 use std::alloc::{AllocError, Global};
 
-/// The greatest length of a rule file, in bytes.
-const LONGEST_RULES: u32 = 33_554_432;
-
 /// The bytes of an answer, and the status under which they are put.
 #[derive(Drop)]
 pub(crate) struct Answer {
@@ -205,7 +202,7 @@ fn verify_against<F: Files>(
     ensures { (file : List ℕ) → HasSpec (Verify file rules.now) (F.state files.old) spec.now →
         Answered (Some (Verify file rules.now)) (F.state files.old) (F.state files.new) result }
 {
-    match read_second(alloc, files, rules, LONGEST_RULES) {
+    match read_second(alloc, files, rules, lgc_rules::LONGEST_FILE as u32) {
         Ok(bytes) => verdicts(alloc, spec, &bytes),
         Err(stop) => Err(stop),
     }

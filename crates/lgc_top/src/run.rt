@@ -3,7 +3,8 @@ ghost use Rattle.std.specs.Prelude.{◌≡◌, ◌⊎◌, ℕ, List, Some, map, 
 ghost use Rattle.lgc_io.specs.Files.{FilesState};
 ghost use Rattle.lgc_top.specs.declared.status.Status.{Status};
 ghost use Rattle.lgc_top.specs.Commands.{Calculus, Verify, command_of};
-ghost use Rattle.lgc_top.specs.Run.{run_of, Answers, Ends, IsFaultless, Means, PrintsCalculus, PrintsVerdicts, AfterPut};
+ghost use Rattle.lgc_top.specs.Run.{run_of, Answers, Ends, PrintsCalculus, PrintsVerdicts, AfterPut};
+ghost use Rattle.lgc_top.specs.Means.{IsFaultless, Means};
 
 use crate::answer::{Answer, Stop, answer_to};
 use crate::status::{Status, goes_out};

@@ -81,8 +81,8 @@ const ACCEPTED: [(&str, &str, &str); 18] = [
     ),
     (
         "",
-        "% Lukasiewicz 3\nlogic \"Lukasiewicz 3\".\ntruth_values {f,u,t}.\ndesignated_truth_values {t}.\nordering(linear, \"f < u < t\").\noperator(neg/1, mapping {(f):t, (u):u, (t):f}).\noperator(and/2, inf(linear)).\noperator(or/2, sup(linear)).\noperator(imp/2, table [\n      f, u, t,\n  f,  t, t, t,\n  u,  u, t, t,\n  t,  f, u, t]).\n",
-        "rule 1: operator neg/1 at {f}: [1^{t}].\nrule 2: operator neg/1 at {u}: [1^{u}].\nrule 3: operator neg/1 at {t}: [1^{f}].\nrule 4: operator and/2 at {f}: [1^{f}, 2^{f}].\nrule 5: operator and/2 at {u}: [2^{u,t}; 1^{u}, 2^{u}; 1^{u,t}].\nrule 6: operator and/2 at {t}: [2^{t}; 1^{t}].\nrule 7: operator or/2 at {f}: [2^{f}; 1^{f}].\nrule 8: operator or/2 at {u}: [2^{f,u}; 1^{u}, 2^{u}; 1^{f,u}].\nrule 9: operator or/2 at {t}: [1^{t}, 2^{t}].\nrule 10: operator imp/2 at {f}: [2^{f}; 1^{t}].\nrule 11: operator imp/2 at {u}: [1^{u}, 2^{u}; 1^{t}, 2^{f}].\nrule 12: operator imp/2 at {t}: [1^{f}, 2^{u,t}; 1^{f,u}, 2^{t}].\n",
+        "% Lukasiewicz 3\nlogic \"Lukasiewicz 3\".\ntruth_values {f,u,t}.\ndesignated_truth_values {t}.\nordering(linear, \"f < u < t\").\noperator(neg/1, mapping {(f):t, (u):u, (t):f}).\noperator(and/2, inf(linear)).\noperator(or/2, sup(linear)).\noperator(imp/2, table [\n      f, u, t,\n  f,  t, t, t,\n  u,  u, t, t,\n  t,  f, u, t]).\nquantifier(forall, induced_by and/2).\nquantifier(exists, induced_by or/2).\n",
+        "rule 1: operator neg/1 at {f}: [1^{t}].\nrule 2: operator neg/1 at {u}: [1^{u}].\nrule 3: operator neg/1 at {t}: [1^{f}].\nrule 4: operator and/2 at {f}: [1^{f}, 2^{f}].\nrule 5: operator and/2 at {u}: [2^{u,t}; 1^{u}, 2^{u}; 1^{u,t}].\nrule 6: operator and/2 at {t}: [2^{t}; 1^{t}].\nrule 7: operator or/2 at {f}: [2^{f}; 1^{f}].\nrule 8: operator or/2 at {u}: [2^{f,u}; 1^{u}, 2^{u}; 1^{f,u}].\nrule 9: operator or/2 at {t}: [1^{t}, 2^{t}].\nrule 10: operator imp/2 at {f}: [2^{f}; 1^{t}].\nrule 11: operator imp/2 at {u}: [1^{u}, 2^{u}; 1^{t}, 2^{f}].\nrule 12: operator imp/2 at {t}: [1^{f}, 2^{u,t}; 1^{f,u}, 2^{t}].\nrule 13: quantifier forall at {f}: [some{f}].\nrule 14: quantifier forall at {u}: [all{u,t}; some{u}].\nrule 15: quantifier forall at {t}: [all{t}].\nrule 16: quantifier exists at {f}: [all{f}].\nrule 17: quantifier exists at {u}: [all{f,u}; some{u}].\nrule 18: quantifier exists at {t}: [some{t}].\n",
     ),
     (
         THREE,
@@ -103,6 +103,35 @@ const ACCEPTED: [(&str, &str, &str); 18] = [
         "",
         "truth_values [1,+].designated_truth_values {}.operator(k/2,table{+ 1 1 + 1 + + 1}).",
         "rule 1: operator k/2 at {1}: [2^{1}].\nrule 2: operator k/2 at {'+'}: [2^{'+'}].\n",
+    ),
+];
+
+/// The same for files with quantifiers.
+const QUANTIFIED: [(&str, &str, &str); 5] = [
+    (
+        THREE,
+        "operator(i/1, mapping {(f):f,(u):u,(t):t}). quantifier(~, mapping {{f}:f, {u}:u, {f,u}:f, {t}:t, {t,f}:f, {u,t,u}:u, {f,u,t}:f}).",
+        "rule 1: operator i/1 at {f}: [1^{f}].\nrule 2: operator i/1 at {u}: [1^{u}].\nrule 3: operator i/1 at {t}: [1^{t}].\nrule 4: quantifier '~' at {f}: [some{f}].\nrule 5: quantifier '~' at {u}: [all{u,t}; some{u}].\nrule 6: quantifier '~' at {t}: [all{t}].\n",
+    ),
+    (
+        TWO,
+        "quantifier(mixed, mapping [[f]:f,[t]:f,[f,t]:t]).",
+        "rule 1: quantifier mixed at {f}: [all{f}, all{t}].\nrule 2: quantifier mixed at {t}: [some{f}; some{t}].\n",
+    ),
+    (
+        TWO,
+        "quantifier(all, induced_by (and/02)). operator(i/1, mapping {(f):f,(t):t}). operator(and/2, mapping {(f,f):f,(f,t):f,(t,f):f,(t,t):t}).",
+        "rule 1: operator i/1 at {f}: [1^{f}].\nrule 2: operator i/1 at {t}: [1^{t}].\nrule 3: operator and/2 at {f}: [1^{f}, 2^{f}].\nrule 4: operator and/2 at {t}: [2^{t}; 1^{t}].\nrule 5: quantifier all at {f}: [some{f}].\nrule 6: quantifier all at {t}: [all{t}].\n",
+    ),
+    (
+        "truth_values {f,n,b,t}. designated_truth_values {t}. ",
+        "ordering(o, \"f < {n,b} < t\"). quantifier(q, inf(o)). quantifier(p, sup(o)).",
+        "rule 1: quantifier q at {f}: [some{f,n}; some{f,b}].\nrule 2: quantifier q at {n}: [all{n,t}; some{n}].\nrule 3: quantifier q at {b}: [all{b,t}; some{b}].\nrule 4: quantifier q at {t}: [all{t}].\nrule 5: quantifier p at {f}: [all{f}].\nrule 6: quantifier p at {n}: [all{f,n}; some{n}].\nrule 7: quantifier p at {b}: [all{f,b}; some{b}].\nrule 8: quantifier p at {t}: [some{n,t}; some{b,t}].\n",
+    ),
+    (
+        TWO,
+        "quantifier(never, mapping {{f}:f,{t}:f,{f,t}:f}).",
+        "rule 1: quantifier never at {f}: [].\nrule 2: quantifier never at {t}: [0].\n",
     ),
 ];
 
@@ -251,7 +280,7 @@ const STATEMENT_FAULTS: [(&str, &str, &str); 26] = [
     ),
 ];
 
-/// The head and the rest of files whose operators have a fault, or which have a quantifier, and the line of the first one.
+/// The head and the rest of files whose operators have a fault, and of two with a fault of a quantifier, and the line of the first one.
 const OPERATOR_FAULTS: [(&str, &str, &str); 29] = [
     (
         TWO,
@@ -371,12 +400,176 @@ const OPERATOR_FAULTS: [(&str, &str, &str); 29] = [
     (
         TWO,
         "quantifier(q, mapping {}). quantifier(r, mapping {}).",
-        "spec fault 27 at 60\n",
+        "spec fault 25 at 72: {f}\n",
     ),
     (
         "",
         "quantifier(q, mapping {}). truth_values {f,t}. designated_truth_values {t}. operator(k/7, mapping {}).",
         "spec fault 11 at 87\n",
+    ),
+];
+
+/// The head and the rest of files whose mapping of a quantifier, or whose quantifier's name, has a fault, and the line of the first one.
+const DISTRIBUTION_FAULTS: [(&str, &str, &str); 15] = [
+    (
+        TWO,
+        "operator(neg/1, mapping {(f):t,(t):f}). quantifier(neg, mapping {{f}:f,{t}:t,{f,t}:f}).",
+        "spec fault 10 at 100\n",
+    ),
+    (
+        TWO,
+        "quantifier(neg, mapping {{}:f}). operator(neg/1, mapping {(f):t,(t):f}). ",
+        "spec fault 10 at 60\n",
+    ),
+    (
+        TWO,
+        "quantifier(q, mapping {{f}:f,{t}:t,{f,t}:f}). quantifier('q', mapping {{}:f}).",
+        "spec fault 10 at 106\n",
+    ),
+    (
+        TWO,
+        "quantifier(q, mapping {{}:f}).",
+        "spec fault 23 at 72\n",
+    ),
+    (
+        TWO,
+        "quantifier(q, mapping [[f]:f,[]:x]).",
+        "spec fault 23 at 78\n",
+    ),
+    (
+        TWO,
+        "quantifier(q, mapping {{f,x}:f}).",
+        "spec fault 9 at 75\n",
+    ),
+    (
+        TWO,
+        "quantifier(q, mapping {{f}:f,{f}:x}).",
+        "spec fault 9 at 82\n",
+    ),
+    (
+        TWO,
+        "quantifier(q, mapping {{f}:f,{f}:f}).",
+        "spec fault 24 at 78\n",
+    ),
+    (
+        TWO,
+        "quantifier(q, mapping {{f}:f,{t,f}:t,{t}:t,{f,t}:t}).",
+        "spec fault 24 at 92\n",
+    ),
+    (
+        TWO,
+        "quantifier(q, mapping {{t,t}:t,{t}:t,{}:t}).",
+        "spec fault 24 at 80\n",
+    ),
+    (
+        TWO,
+        "quantifier(q, mapping {{f}:f, {t}:t}).",
+        "spec fault 25 at 84: {f,t}\n",
+    ),
+    (
+        TWO,
+        "quantifier(q, mapping []).",
+        "spec fault 25 at 72: {f}\n",
+    ),
+    (
+        TWO,
+        "quantifier(q, mapping {{f,f}:f,{t,f,t}:f}).",
+        "spec fault 25 at 89: {t}\n",
+    ),
+    (
+        THREE,
+        "quantifier(q, mapping {{f}:f,{u}:u,{t}:t,{f,t}:f,{f,u,t}:f,{u,t}:u}).",
+        "spec fault 25 at 117: {f,u}\n",
+    ),
+    (
+        THREE,
+        "quantifier(q, mapping {{f,u,t}:f,{f}:f,{u}:u,{f,u}:f,{t}:t}).",
+        "spec fault 25 at 109: {f,t}\n",
+    ),
+];
+
+/// The same for quantifiers by an operator or an ordering, and for faults in several statements.
+const INDUCTION_FAULTS: [(&str, &str, &str); 17] = [
+    (
+        TWO,
+        "quantifier(q, induced_by and/2).",
+        "spec fault 21 at 74\n",
+    ),
+    (
+        TWO,
+        "quantifier(q, induced_by (and/2)). operator(or/2, mapping {(f,f):f,(f,t):f,(t,f):f,(t,t):t}). ",
+        "spec fault 21 at 75\n",
+    ),
+    (
+        TWO,
+        "operator(neg/1, mapping {(f):t,(t):f}). quantifier(q, induced_by neg/2).",
+        "spec fault 21 at 114\n",
+    ),
+    (
+        TWO,
+        "operator(neg/1, mapping {(f):t,(t):f}). quantifier(q, induced_by neg/1).",
+        "spec fault 21 at 114\n",
+    ),
+    (
+        TWO,
+        "operator(and/2, mapping {(f,f):f,(f,t):f,(t,f):f,(t,t):t}). quantifier(q, induced_by (and/3)).",
+        "spec fault 21 at 135\n",
+    ),
+    (
+        TWO,
+        "operator(and/2, mapping {(f,f):f,(f,t):f,(t,f):f,(t,t):t}). quantifier(q, induced_by and/12).",
+        "spec fault 21 at 134\n",
+    ),
+    (
+        TWO,
+        "operator(and/2, mapping {(f,f):f,(f,t):f,(t,f):f,(t,t):t}). quantifier(and2, induced_by and/002). quantifier(q, induced_by and2/2).",
+        "spec fault 21 at 172\n",
+    ),
+    (
+        TWO,
+        "operator(imp/2, mapping {(f,f):t,(f,t):t,(t,f):f,(t,t):t}). quantifier(q, induced_by imp/2).",
+        "spec fault 22 at 134: idempotent (f)\n",
+    ),
+    (
+        TWO,
+        "quantifier(q, induced_by (last/2)). operator(last/2, mapping {(f,f):f,(f,t):f,(t,f):f,(t,t):f}). ",
+        "spec fault 22 at 75: idempotent (t)\n",
+    ),
+    (
+        TWO,
+        "operator(first/2, mapping {(f,f):f,(f,t):f,(t,f):t,(t,t):t}). quantifier(q, induced_by first/2).",
+        "spec fault 22 at 136: commutative (f,t)\n",
+    ),
+    (
+        THREE,
+        "operator(beats/2, table [f,u,t, f,f,f,t, u,f,u,u, t,t,u,t]). quantifier(q, induced_by (beats/2)).",
+        "spec fault 22 at 138: associative (f,u,t)\n",
+    ),
+    (FOUR, "quantifier(q, inf(o)).", "spec fault 18 at 71\n"),
+    (
+        FOUR,
+        "ordering(o, \"a < c, a < d, b < c, b < d\"). quantifier(q, sup(o)).",
+        "spec fault 20 at 110: (a,b)\n",
+    ),
+    (
+        FOUR,
+        "quantifier(q, inf(o)). ordering(o, \"a < c, a < d, b < c, b < d\").",
+        "spec fault 20 at 67: (a,b)\n",
+    ),
+    (
+        TWO,
+        "quantifier(q, mapping {{}:f}). operator(g/5, mapping {}).",
+        "spec fault 11 at 91\n",
+    ),
+    (
+        TWO,
+        "quantifier(q, inf(o)). quantifier(r, mapping {{}:f}).",
+        "spec fault 18 at 67\n",
+    ),
+    (
+        TWO,
+        "quantifier(q, mapping {{}:f}). quantifier(r, inf(o)).",
+        "spec fault 23 at 72\n",
     ),
 ];
 
@@ -395,7 +588,7 @@ const NO_COMMANDS: [&[&str]; 10] = [
 ];
 
 const L3: &str =
-    "logic \"Lukasiewicz 3\".\ntruth_values {f,u,t}.\ndesignated_truth_values {t}.\nordering(linear, \"f < u < t\").\noperator(neg/1, mapping {(f):t, (u):u, (t):f}).\noperator(and/2, inf(linear)).\noperator(or/2, sup(linear)).\noperator(imp/2, table [\n      f, u, t,\n  f,  t, t, t,\n  u,  u, t, t,\n  t,  f, u, t]).\n";
+    "logic \"Lukasiewicz 3\".\ntruth_values {f,u,t}.\ndesignated_truth_values {t}.\nordering(linear, \"f < u < t\").\noperator(neg/1, mapping {(f):t, (u):u, (t):f}).\noperator(and/2, inf(linear)).\noperator(or/2, sup(linear)).\noperator(imp/2, table [\n      f, u, t,\n  f,  t, t, t,\n  u,  u, t, t,\n  t,  f, u, t]).\nquantifier(forall, induced_by and/2).\nquantifier(exists, induced_by or/2).\n";
 
 /// Rules for L3, and the lines on them.
 const JUDGED: [(&str, Status, &str); 5] = [
@@ -422,8 +615,33 @@ const JUDGED: [(&str, Status, &str); 5] = [
     ),
 ];
 
+const FNBT: &str =
+    "truth_values {f,n,b,t}. designated_truth_values {t}. ordering(o, \"f < {n,b} < t\"). quantifier(q, inf(o)).";
+
+/// A specification with quantifiers, rules for it, and the lines on them.
+const JUDGED_QUANTIFIERS: [(&str, &str, Status, &str); 3] = [
+    (
+        L3,
+        "rule 1: operator neg/1 at {f}: [1^{t}].\nrule 2: operator neg/1 at {u}: [1^{u}].\nrule 3: operator neg/1 at {t}: [1^{f}].\nrule 4: operator and/2 at {f}: [1^{f}, 2^{f}].\nrule 5: operator and/2 at {u}: [2^{u,t}; 1^{u}, 2^{u}; 1^{u,t}].\nrule 6: operator and/2 at {t}: [2^{t}; 1^{t}].\nrule 7: operator or/2 at {f}: [2^{f}; 1^{f}].\nrule 8: operator or/2 at {u}: [2^{f,u}; 1^{u}, 2^{u}; 1^{f,u}].\nrule 9: operator or/2 at {t}: [1^{t}, 2^{t}].\nrule 10: operator imp/2 at {f}: [2^{f}; 1^{t}].\nrule 11: operator imp/2 at {u}: [1^{u}, 2^{u}; 1^{t}, 2^{f}].\nrule 12: operator imp/2 at {t}: [1^{f}, 2^{u,t}; 1^{f,u}, 2^{t}].\nrule 13: quantifier forall at {f}: [some{f}].\nrule 14: quantifier forall at {u}: [all{u,t}; some{u}].\nrule 15: quantifier forall at {t}: [all{t}].\nrule 16: quantifier exists at {f}: [all{f}].\nrule 17: quantifier exists at {u}: [all{f,u}; some{u}].\nrule 18: quantifier exists at {t}: [some{t}].\n",
+        Status::Done,
+        "rule 1: right.\nrule 2: right.\nrule 3: right.\nrule 4: right.\nrule 5: right.\nrule 6: right.\nrule 7: right.\nrule 8: right.\nrule 9: right.\nrule 10: right.\nrule 11: right.\nrule 12: right.\nrule 13: right.\nrule 14: right.\nrule 15: right.\nrule 16: right.\nrule 17: right.\nrule 18: right.\n",
+    ),
+    (
+        L3,
+        "rule 1: quantifier forall at {u}: [all{u,t}; some{u}].\nrule 2: quantifier forall at {u}: [all{t,u}; some{f,u}].\nrule 3: quantifier exists at {t}: [all{t}, some{t}].\nrule 4: quantifier exists at {f}: [all{f}; all{f,u}].\nrule 5: quantifier forall at {t}: [0].\nrule 6: quantifier forall at {f,u,t}: [].\nrule 7: quantifier forall at {t}: [all{u,t}].\n",
+        Status::Rejected,
+        "rule 1: right.\nrule 2: value f of some in clause 2 is superfluous.\nrule 3: value t of all 1 in clause 1 is superfluous.\nrule 4: clause 2 is superfluous.\nrule 5: differs at {t}.\nrule 6: right.\nrule 7: differs at {u}.\n",
+    ),
+    (
+        FNBT,
+        "rule 1: quantifier q at {n,b,t}: [all{n,t}, all{b,t}].\nrule 2: quantifier q at {n,b,t}: [all{n,b,t}].\n",
+        Status::Rejected,
+        "rule 1: right.\nrule 2: differs at {n,b}.\n",
+    ),
+];
+
 /// Rules for L3 with a fault, and the line of the first one.
-const INPUT_FAULTS: [(&str, &str); 8] = [
+const INPUT_FAULTS: [(&str, &str); 12] = [
     ("`", "input fault 2 at 0\n"),
     ("'a", "input fault 3 at 0\n"),
     ("rule 1", "input fault 4 at 6\n"),
@@ -446,6 +664,22 @@ const INPUT_FAULTS: [(&str, &str); 8] = [
     (
         "rule 2: operator neg/1 at {f}: [1^{t}].",
         "input fault 12 at 5\n",
+    ),
+    (
+        "rule 1: quantifier neg at {f}: [].",
+        "input fault 5 at 19\n",
+    ),
+    (
+        "rule 1: operator forall/2 at {f}: [].",
+        "input fault 5 at 17\n",
+    ),
+    (
+        "rule 1: quantifier forall at {f}: [0^{f}].",
+        "input fault 4 at 36\n",
+    ),
+    (
+        "rule 1: quantifier forall at {f}: [some{f}, all{t}].",
+        "input fault 4 at 42\n",
     ),
 ];
 
@@ -569,6 +803,11 @@ fn prints_the_rules_of_accepted_files(rt: HostRuntime) -> Result<(), Fail> {
     Ok(accept_all(&rt, rt.alloc(), &ACCEPTED)?)
 }
 
+#[test]
+fn prints_the_rules_of_quantifiers(rt: HostRuntime) -> Result<(), Fail> {
+    Ok(accept_all(&rt, rt.alloc(), &QUANTIFIED)?)
+}
+
 // Each file of the table is refused with its line, and nothing else is put.
 fn refuse_all(
     rt: &impl Abort,
@@ -597,6 +836,35 @@ fn tells_the_first_fault_of_statements(rt: HostRuntime) -> Result<(), Fail> {
 #[test]
 fn tells_the_first_fault_of_operators(rt: HostRuntime) -> Result<(), Fail> {
     Ok(refuse_all(&rt, rt.alloc(), &OPERATOR_FAULTS)?)
+}
+
+#[test]
+fn tells_the_first_fault_of_distributions(rt: HostRuntime) -> Result<(), Fail> {
+    Ok(refuse_all(&rt, rt.alloc(), &DISTRIBUTION_FAULTS)?)
+}
+
+#[test]
+fn tells_the_first_fault_of_inductions(rt: HostRuntime) -> Result<(), Fail> {
+    Ok(refuse_all(&rt, rt.alloc(), &INDUCTION_FAULTS)?)
+}
+
+#[test]
+fn counts_quantifiers(rt: HostRuntime) -> Result<(), Fail> {
+    for (quantifiers, err) in [(64, ""), (65, "spec fault 12 at 3058\n")] {
+        let mut spec = String::from_str(rt.alloc(), TWO)?;
+        for i in 0..quantifiers {
+            write!(
+                &mut spec,
+                "quantifier(q{i}, mapping {{{{f}}:f,{{t}}:t,{{f,t}}:f}})."
+            )?;
+        }
+        let left = calculus(rt.alloc(), spec.as_str(), "")?;
+        assert!(rt;
+            left.err.bytes() == err.as_bytes(),
+            "{quantifiers} quantifiers"
+        );
+    }
+    Ok(())
 }
 
 #[test]
@@ -700,6 +968,17 @@ fn puts_nothing_where_there_is_no_operator(rt: HostRuntime) -> Result<(), Fail> 
 fn judges_rules(rt: HostRuntime) -> Result<(), Fail> {
     for (rules, status, out) in JUDGED {
         let left = verify(rt.alloc(), L3, rules, 9)?;
+        assert!(rt; left.status == status, "{rules}");
+        assert!(rt; left.out.bytes() == out.as_bytes(), "{rules}");
+        assert!(rt; left.err.bytes().is_empty(), "{rules}");
+    }
+    Ok(())
+}
+
+#[test]
+fn judges_rules_of_quantifiers(rt: HostRuntime) -> Result<(), Fail> {
+    for (spec, rules, status, out) in JUDGED_QUANTIFIERS {
+        let left = verify(rt.alloc(), spec, rules, 9)?;
         assert!(rt; left.status == status, "{rules}");
         assert!(rt; left.out.bytes() == out.as_bytes(), "{rules}");
         assert!(rt; left.err.bytes().is_empty(), "{rules}");

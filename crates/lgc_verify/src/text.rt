@@ -1,15 +1,17 @@
 // The lines that tell verdicts.
-ghost use Rattle.std.specs.Prelude.{◌≡◌, ◌++◌, ◌<◌, ◌≤◌, ◌^◌, ◌↔◌, [], length, All, map, slice_index_or, IsTrue, OnOk, IfOk};
+ghost use Rattle.std.specs.Prelude.{◌≡◌, ◌++◌, ◌<◌, ◌≤◌, ◌^◌, ◌↔◌, [], ℕ, ◌-◌, length, All, map, slice_index_or, IsTrue, OnOk, IfOk};
 ghost use Rattle.lgc_values.specs.declared.TheConstants.{MOST_ROWS};
 ghost use Rattle.lgc_values.specs.Logic.{operator_at, arguments_at};
-ghost use Rattle.lgc_clauses.specs.Rules.{Fits};
-ghost use Rattle.lgc_clauses.specs.Exactness.{any_rule, of_operator, clauses_of, RuleFits};
-ghost use Rattle.lgc_verify.specs.Verdicts.{values_text, row_text, place_text, clause_text, part_text, verdict_text, line_text, IsRight, IsText};
+ghost use Rattle.lgc_clauses.specs.Kinds.{plain_rule};
+ghost use Rattle.lgc_clauses.specs.Rules.{operator, set_of_row, rows_of, Fits};
+ghost use Rattle.lgc_clauses.specs.Irredundance.{IsNumbered};
+ghost use Rattle.lgc_print.specs.Text.{set_text};
+ghost use Rattle.lgc_verify.specs.Verdicts.{IsVerdict, values_text, row_text, place_text, clause_text, part_text, verdict_text, line_text, IsRight, IsText};
 
 use crate::verdict::{Verdict, is_right, judge};
-use lgc_clauses::{Droppable, OpRule, Part, Rule};
-use lgc_print::{put_number, put_value};
-use lgc_values::{Matrix, Name, argument_at};
+use lgc_clauses::{Droppable, Part, Rule};
+use lgc_print::{put_number, put_set, put_value};
+use lgc_values::{Matrix, Name, ValueSet, argument_at};
 use std::alloc::{AllocError, Global};
 
 /// The lines on rules, and whether all of the rules are right.
@@ -59,33 +61,48 @@ fn put_arguments<const N: usize>(
     Ok(())
 }
 
-fn put_row<const N: usize>(
+// Puts the arguments of a row of operator `op`.
+fn put_operator_row<const N: usize>(
     m: &Matrix<N>,
-    rule: &OpRule<N>,
+    op: u16,
     row: u32,
     into: &mut Vec<u8>,
 ) -> Result<(), AllocError>
-    requires { Fits m.now rule.now }
-    ensures { OnOk result (into.new.items ≡ into.old.items ++ row_text m.now (of_operator rule.now) row) }
+    requires { op < length m.now.operators }
+    ensures { OnOk result (into.new.items ≡ into.old.items ++ row_text m.now (operator op) row) }
 {
-    let arity = arity_of(m, rule.op);
+    let arity = arity_of(m, op);
     into.push(b'(')?;
     put_arguments(m, arity, row, into)?;
     into.push(b')')?;
     Ok(())
 }
 
-fn put_rule_row<const N: usize>(
+// Puts the set in a quantifier's row.
+fn put_quantifier_row<const N: usize>(
+    m: &Matrix<N>,
+    row: u32,
+    into: &mut Vec<u8>,
+) -> Result<(), AllocError>
+    requires { row < 2 ^ m.now.size - 1 }
+    ensures { OnOk result (into.new.items ≡ into.old.items ++ set_text m.now.names (set_of_row m.now.size row)) }
+{
+    put_set(m.names(), ValueSet::<N>::of_mask(row as u16 + 1), into)
+}
+
+fn put_row<const N: usize>(
     m: &Matrix<N>,
     rule: &Rule<N>,
     row: u32,
     into: &mut Vec<u8>,
 ) -> Result<(), AllocError>
-    requires { RuleFits m.now (any_rule rule.now) }
-    ensures { OnOk result (into.new.items ≡ into.old.items ++ row_text m.now (any_rule rule.now) row) }
+    requires fits { Fits m.now (plain_rule rule.now) }
+    requires row { row < rows_of m.now (plain_rule rule.now).head }
+    ensures { OnOk result (into.new.items ≡ into.old.items ++ row_text m.now (plain_rule rule.now).head row) }
 {
     match rule {
-        Rule::Operator(rule) => put_row(m, rule, row, into),
+        Rule::Operator(rule) => put_operator_row(m, rule.op, row, into),
+        Rule::Quantifier(_) => put_quantifier_row(m, row, into),
     }
 }
 
@@ -97,6 +114,11 @@ fn put_place(alloc: Global, part: Part, into: &mut Vec<u8>) -> Result<(), AllocE
             into.extend_from_slice(b"argument ")?;
             put_number(alloc, argument, into)
         }
+        Part::All(all) => {
+            into.extend_from_slice(b"all ")?;
+            put_number(alloc, all, into)
+        }
+        Part::Some => into.extend_from_slice(b"some"),
     }
 }
 
@@ -139,13 +161,14 @@ fn put_verdict<const N: usize>(
     verdict: Verdict,
     into: &mut Vec<u8>,
 ) -> Result<(), AllocError>
-    requires { RuleFits m.now (any_rule rule.now) }
-    ensures { OnOk result (into.new.items ≡ into.old.items ++ verdict_text m.now (any_rule rule.now) verdict) }
+    requires fits { Fits m.now (plain_rule rule.now) }
+    requires judged { IsVerdict m.now (plain_rule rule.now) verdict }
+    ensures { OnOk result (into.new.items ≡ into.old.items ++ verdict_text m.now (plain_rule rule.now) verdict) }
 {
     match verdict {
         Verdict::Differs(row) => {
             into.extend_from_slice(b"differs at ")?;
-            put_rule_row(m, rule, row, into)
+            put_row(m, rule, row, into)
         }
         Verdict::Superfluous(part) => {
             put_part(alloc, m.names(), part, into)?;
@@ -165,8 +188,9 @@ fn put_line<const N: usize>(
     verdict: Verdict,
     into: &mut Vec<u8>,
 ) -> Result<(), AllocError>
-    requires { RuleFits m.now (any_rule rule.now) }
-    ensures { OnOk result (into.new.items ≡ into.old.items ++ line_text m.now number (any_rule rule.now) verdict) }
+    requires fits { Fits m.now (plain_rule rule.now) }
+    requires judged { IsVerdict m.now (plain_rule rule.now) verdict }
+    ensures { OnOk result (into.new.items ≡ into.old.items ++ line_text m.now number (plain_rule rule.now) verdict) }
 {
     let head = format!(in alloc; "rule {number}: ")?;
     into.extend_from_slice(head.as_bytes())?;
@@ -180,10 +204,10 @@ pub fn judge_rules<const N: usize>(
     m: &Matrix<N>,
     rules: &[Rule<N>],
 ) -> Result<Judged, AllocError>
-    requires fits { All (λ rule. RuleFits m.now (any_rule rule)) rules.now }
-    requires few { All (λ rule. length (clauses_of (any_rule rule)) < 2 ^ 32) rules.now }
-    ensures lines { IfOk result (λ judged. IsText m.now (map any_rule rules.now) judged.lines.items) }
-    ensures right { IfOk result (λ judged. IsTrue judged.all_right ↔ All (IsRight m.now) (map any_rule rules.now)) }
+    requires fits { All (λ rule. Fits m.now (plain_rule rule)) rules.now }
+    requires numbered { All (λ rule. IsNumbered (plain_rule rule)) rules.now }
+    ensures lines { IfOk result (λ judged. IsText m.now (map plain_rule rules.now) judged.lines.items) }
+    ensures right { IfOk result (λ judged. IsTrue judged.all_right ↔ All (IsRight m.now) (map plain_rule rules.now)) }
 {
     let mut lines = Vec::new(alloc);
     let mut all_right = true;

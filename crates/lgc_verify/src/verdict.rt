@@ -1,6 +1,8 @@
 // Verdicts on rules.
 ghost use Rattle.std.specs.Prelude.{◌≡◌, ◌<◌, ◌^◌, length};
-ghost use Rattle.lgc_clauses.specs.Exactness.{any_rule, clauses_of, RuleFits};
+ghost use Rattle.lgc_clauses.specs.Kinds.{plain_rule};
+ghost use Rattle.lgc_clauses.specs.Rules.{Fits};
+ghost use Rattle.lgc_clauses.specs.Irredundance.{IsNumbered};
 ghost use Rattle.lgc_verify.specs.Verdicts.{IsVerdict, is_right};
 
 use lgc_clauses::{Droppable, Rule, rule_exact, rule_irredundant};
@@ -19,9 +21,9 @@ pub enum Verdict {
 
 /// The verdict on a rule, the first that is true of it. It takes no memory.
 pub fn judge<const N: usize>(m: &Matrix<N>, rule: &Rule<N>) -> Verdict
-    requires fits { RuleFits m.now (any_rule rule.now) }
-    requires few { length (clauses_of (any_rule rule.now)) < 2 ^ 32 }
-    ensures { IsVerdict m.now (any_rule rule.now) result }
+    requires fits { Fits m.now (plain_rule rule.now) }
+    requires numbered { IsNumbered (plain_rule rule.now) }
+    ensures { IsVerdict m.now (plain_rule rule.now) result }
 {
     match rule_exact(m, rule) {
         Some(row) => Verdict::Differs(row),

@@ -1,8 +1,7 @@
 -- The table tells the operator's values, so what is irredundant over it is irredundant.
 use Rattle.std.proofs.Common.{◌≡◌, ℕ, ◌^◌, List, length, get_or, false, ap, sym, ◌∙◌, subst}
 use Rattle.lgc_values.specs.Logic.{row_count, operator_at}
-use Rattle.lgc_clauses.specs.Rules.{clause_holds}
-use Rattle.lgc_clauses.specs.Exactness.{of_operator}
+use Rattle.lgc_clauses.specs.Rules.{of_operator, clause_holds}
 use Rattle.lgc_clauses.specs.Irredundance.{IsIrredundant}
 use Rattle.lgc_derivation.proofs.Irredundance.{irredundant_alike}
 use Rattle.lgc_op_rules.specs.Operators.{operator_table}

@@ -1,11 +1,11 @@
 use Rattle.std.proofs.Common.{◌≡◌, length}
 use Rattle.lgc_rules.specs.Spelled.{IsRest, spelled_all}
-use Rattle.lgc_rules.specs.RuleReading.{more_clauses_at}
+use Rattle.lgc_rules.specs.RuleReading.{clause_at, more_clauses_at}
 use Rattle.lgc_rules.proofs.clause.more_clauses.Given as goal
 
 abbrev pub invariant-loop-alloc : goal.invariant-loop-alloc
 invariant-loop-alloc g l = record {
-  so_far : more_clauses_at g.row.N l.m l.arity l.clauses (spelled_all l.bytes l.rest) ≡ more_clauses_at g.row.N l.m l.arity l.fn.clauses (spelled_all l.bytes l.tokens);
+  so_far : more_clauses_at (clause_at g.row.N l.m l.arity) l.clauses (spelled_all l.bytes l.rest) ≡ more_clauses_at (clause_at g.row.N l.m l.arity) l.fn.clauses (spelled_all l.bytes l.tokens);
   rest : IsRest l.bytes l.tokens l.rest;
 }
 

@@ -1,3 +1,4 @@
+use Rattle.std.proofs.Common.{◌∙◌}
 use Rattle.lgc_rules.proofs.Tops.{file_answer, file_is, file_fits}
 use Rattle.lgc_rules.proofs.file.read_rules.Goals as goal
 
@@ -8,4 +9,4 @@ pub returns-clause-complete : goal.returns-clause-complete
 returns-clause-complete g c = λ rules h. file_is g.row.N c.args.m.now c.args.bytes.now rules _ h c.rules_in.ensures
 
 pub returns-clause-fits : goal.returns-clause-fits
-returns-clause-fits g c = file_fits g.row.N c.args.m.now c.args.bytes.now _ c.rules_in.ensures
+returns-clause-fits g c = file_fits g.row.N c.args.m.now c.args.bytes.now (c.names-names.ensures.logic.named ∙ c.names-names.ensures.size) _ c.rules_in.ensures

@@ -1,4 +1,4 @@
-use Rattle.std.proofs.Common.{length, arith}
+use Rattle.std.proofs.Common.{length, arith, ◌∙◌}
 use Rattle.lgc_lexer.proofs.SpanLaws.{tokens_all_in}
 use Rattle.lgc_rules.specs.Spelled.{spelled_all}
 use Rattle.lgc_rules.proofs.Tops.{rule_answer, rule_is, rule_for}
@@ -14,4 +14,4 @@ pub returns-clause-complete : goal.returns-clause-complete
 returns-clause-complete g c = λ rule front rest split h. rule_is g.row.N c.args.m.now (length c.args.bytes.now) (spelled_all c.args.bytes.now c.args.tokens.now) c.args.at _ rule front rest split h c.rule_from.ensures.exact
 
 pub returns-clause-fits : goal.returns-clause-fits
-returns-clause-fits g c = rule_for g.row.N c.args.m.now _ c.args.bytes.now c.args.tokens.now c.args.at _ c.requires.length c.requires.tokens c.rule_from.ensures.exact
+returns-clause-fits g c = rule_for g.row.N c.args.m.now _ (c.names-names.ensures.logic.named ∙ c.names-names.ensures.size) c.args.bytes.now c.args.tokens.now c.args.at _ c.requires.length c.requires.tokens c.rule_from.ensures.exact

@@ -1,8 +1,8 @@
-use Rattle.std.proofs.Common.{◌≡◌, ℕ, List, All, ap, sym, subst, ◌∙◌}
+use Rattle.std.proofs.Common.{◌≡◌, List, All, ap, subst, ◌∙◌}
 use Rattle.std.specs.Prelude.{◌↔◌, IsTrue, map}
 use Rattle.lgc_values.specs.Logic.{Logic}
 use Rattle.lgc_clauses.specs.declared.rule.Rule.{Rule}
-use Rattle.lgc_clauses.specs.Exactness.{any_rule}
+use Rattle.lgc_clauses.specs.Kinds.{plain_rule}
 use Rattle.lgc_spec.specs.Logics.{logic_of}
 use Rattle.lgc_verify.specs.Verdicts.{IsRight, IsText}
 use Rattle.lgc_top.proofs.Judging.{judged, refused}
@@ -15,8 +15,8 @@ returns-in-Ok g c =
     let same : m ≡ logic = c.in_ok-m.ensures in
     let told = c.in_ok-judge_rules-in-Ok.field-0 in
     judged g.row.N m logic same (ap (λ (l : Logic). l.size) same ∙ c.requires.size) c.args.bytes.now told.all_right told.lines.items c.in-Ok.rules c.in-Ok.ensures.answer c.in-Ok.ensures.exact
-    (subst (λ (rules : List (Rule g.row.N)). IsTrue told.all_right ↔ All (IsRight m) (map any_rule rules)) c.items.ensures c.in_ok-judge_rules-in-Ok.ensures.right)
-    (subst (λ (rules : List (Rule g.row.N)). IsText m (map any_rule rules) told.lines.items) c.items.ensures c.in_ok-judge_rules-in-Ok.ensures.lines)
+    (subst (λ (rules : List (Rule g.row.N)). IsTrue told.all_right ↔ All (IsRight m) (map plain_rule rules)) c.items.ensures c.in_ok-judge_rules-in-Ok.ensures.right)
+    (subst (λ (rules : List (Rule g.row.N)). IsText m (map plain_rule rules) told.lines.items) c.items.ensures c.in_ok-judge_rules-in-Ok.ensures.lines)
 
 pub returns : goal.returns
 returns g c =

@@ -1,5 +1,5 @@
 use Rattle.std.proofs.Common.{◌≡◌, ℕ, List, [], ◌∷◌, ◌++◌, take, arith}
-use Rattle.std.specs.Prelude.{◌+◌, codes, map, slice_index_or}
+use Rattle.std.specs.Prelude.{◌+◌, map, slice_index_or}
 use Rattle.std.proofs.lemmas.Grind.{common_steps}
 use Rattle.lgc_values.specs.Logic.{arguments_at}
 use Rattle.lgc_print.specs.Text.{value_text}

@@ -1,0 +1,5 @@
+pub mod Starts
+pub mod Rows
+pub mod Ordering
+pub mod Primes
+pub mod Irredundance

@@ -1,0 +1,244 @@
+// Clauses of a quantifier: `all` sets and a `some` set, and lists of clauses.
+ghost use Rattle.std.specs.Prelude.{◌≡◌, [], ◌∷◌, ◌++◌, ◌<◌, ◌≤◌, length, IfOk, if◌then◌else◌};
+ghost use Rattle.lgc_values.specs.Values.{IsSize};
+ghost use Rattle.lgc_lexer.specs.Spans.{AllIn};
+ghost use Rattle.lgc_rules.specs.Spelled.{spelled_all, IsRest, IsShorter};
+ghost use Rattle.lgc_rules.specs.Classes.{starts_quantifier_clause};
+ghost use Rattle.lgc_rules.specs.Words.{onward, last};
+ghost use Rattle.lgc_rules.specs.RuleReading.{set_behind_at, next_set_at, more_sets_at, all_sets_at, some_alone_at, no_sets_at, quantifier_clause_at, next_clause_at, more_clauses_at, some_clauses_at, clauses_at};
+ghost use Rattle.lgc_rules.specs.Gives.{Gives};
+
+use crate::class::Class;
+use crate::set::read_set;
+use crate::terminal::{Reading, Rest, Terminal, next_is, one};
+use lgc_clauses::QClause;
+use lgc_lexer::Token;
+use lgc_values::{List, Matrix, ValueSet};
+use std::alloc::Global;
+
+// A set behind the word `all` or `some`.
+#[tactic(auto, unfolding(crate::specs::RuleReading::set_behind_at))]
+fn set_behind<'a, const N: usize>(
+    m: &Matrix<N>,
+    bytes: &[u8],
+    word: Class,
+    set: &mut ValueSet<N>,
+    tokens: &'a [Token],
+) -> Rest<'a>
+    requires { AllIn bytes.now tokens.now }
+    ensures gives { Gives bytes.now (λ x. (set.new, spelled_all bytes.now x.now)) result (set_behind_at word N m.now (spelled_all bytes.now tokens.now)) }
+    ensures rest { IfOk result (λ x. IsShorter bytes.now tokens.now x.now) }
+{
+    let (_, rest) = one(bytes, Terminal::Only(word), tokens)?;
+    read_set(m, bytes, set, rest)
+}
+
+// A comma and one more set: an `all` set, or the `some` set, which is the last. Whether it is the last.
+fn next_set<'a, const N: usize>(
+    m: &Matrix<N>,
+    bytes: &[u8],
+    all: &mut List<ValueSet<N>>,
+    some: &mut ValueSet<N>,
+    tokens: &'a [Token],
+) -> Reading<'a, bool>
+    requires { AllIn bytes.now tokens.now }
+    ensures gives { Gives bytes.now (λ x. (if x.0 then last (some.new ∷ all.new) else onward all.new, spelled_all bytes.now x.1.now)) result (next_set_at N m.now all.old (spelled_all bytes.now tokens.now)) }
+    ensures rest { IfOk result (λ x. IsShorter bytes.now tokens.now x.1.now) }
+{
+    let (_, rest) = one(bytes, Terminal::Only(Class::Comma), tokens)?;
+    if next_is(bytes, Terminal::Only(Class::AllWord), rest) {
+        let mut set = m.designated();
+        let rest = set_behind(m, bytes, Class::AllWord, &mut set, rest)?;
+        all.push(set)?;
+        Ok((false, rest))
+    } else {
+        let rest = set_behind(m, bytes, Class::SomeWord, some, rest)?;
+        Ok((true, rest))
+    }
+}
+
+// Sets behind `all` sets, each behind a comma. A `some` set that isn't there is empty.
+fn more_sets<'a, const N: usize>(
+    m: &Matrix<N>,
+    bytes: &[u8],
+    all: &mut List<ValueSet<N>>,
+    some: &mut ValueSet<N>,
+    tokens: &'a [Token],
+) -> Rest<'a>
+    requires { AllIn bytes.now tokens.now }
+    ensures gives { Gives bytes.now (λ x. (some.new ∷ all.new, spelled_all bytes.now x.now)) result (more_sets_at N m.now all.old (spelled_all bytes.now tokens.now)) }
+    ensures rest { IfOk result (λ x. IsRest bytes.now tokens.now x.now) }
+{
+    let mut rest = tokens;
+    while next_is(bytes, Terminal::Only(Class::Comma), rest) {
+        let (last, behind) = next_set(m, bytes, all, some, rest)?;
+        if last {
+            return Ok(behind);
+        }
+        rest = behind;
+    }
+    let _designated = m.designated();
+    *some = ValueSet::empty();
+    Ok(rest)
+}
+
+// One `all` set or more, and the `some` set.
+#[tactic(auto, unfolding(crate::specs::RuleReading::all_sets_at))]
+fn all_sets<'a, const N: usize>(
+    m: &Matrix<N>,
+    bytes: &[u8],
+    all: &mut List<ValueSet<N>>,
+    some: &mut ValueSet<N>,
+    tokens: &'a [Token],
+) -> Rest<'a>
+    requires inside { AllIn bytes.now tokens.now }
+    requires none { all.old ≡ [] }
+    ensures gives { Gives bytes.now (λ x. (some.new ∷ all.new, spelled_all bytes.now x.now)) result (all_sets_at N m.now (spelled_all bytes.now tokens.now)) }
+    ensures rest { IfOk result (λ x. IsShorter bytes.now tokens.now x.now) }
+{
+    let mut set = m.designated();
+    let rest = set_behind(m, bytes, Class::AllWord, &mut set, tokens)?;
+    all.push(set)?;
+    more_sets(m, bytes, all, some, rest)
+}
+
+// The `some` set alone.
+#[tactic(auto, unfolding(crate::specs::RuleReading::some_alone_at))]
+fn some_alone<'a, const N: usize>(
+    m: &Matrix<N>,
+    bytes: &[u8],
+    all: &mut List<ValueSet<N>>,
+    some: &mut ValueSet<N>,
+    tokens: &'a [Token],
+) -> Rest<'a>
+    requires inside { AllIn bytes.now tokens.now }
+    requires none { all.old ≡ [] }
+    ensures gives { Gives bytes.now (λ x. (some.new ∷ all.new, spelled_all bytes.now x.now)) result (some_alone_at N m.now (spelled_all bytes.now tokens.now)) }
+    ensures rest { IfOk result (λ x. IsShorter bytes.now tokens.now x.now) }
+{
+    set_behind(m, bytes, Class::SomeWord, some, tokens)
+}
+
+// The clause without sets.
+#[tactic(auto, unfolding(crate::specs::RuleReading::no_sets_at))]
+fn no_sets<'a, const N: usize>(
+    m: &Matrix<N>,
+    bytes: &[u8],
+    all: &mut List<ValueSet<N>>,
+    some: &mut ValueSet<N>,
+    tokens: &'a [Token],
+) -> Rest<'a>
+    requires inside { AllIn bytes.now tokens.now }
+    requires none { all.old ≡ [] }
+    ensures gives { Gives bytes.now (λ x. (some.new ∷ all.new, spelled_all bytes.now x.now)) result (no_sets_at (spelled_all bytes.now tokens.now)) }
+    ensures rest { IfOk result (λ x. IsShorter bytes.now tokens.now x.now) }
+{
+    let (_, rest) = one(bytes, Terminal::Zero, tokens)?;
+    let _designated = m.designated();
+    *some = ValueSet::empty();
+    Ok(rest)
+}
+
+// A clause: its `all` sets and its `some` set.
+#[tactic(auto, unfolding(crate::specs::RuleReading::quantifier_clause_at))]
+fn quantifier_clause<'a, const N: usize>(
+    m: &Matrix<N>,
+    bytes: &[u8],
+    all: &mut List<ValueSet<N>>,
+    some: &mut ValueSet<N>,
+    tokens: &'a [Token],
+) -> Rest<'a>
+    requires inside { AllIn bytes.now tokens.now }
+    requires none { all.old ≡ [] }
+    ensures gives { Gives bytes.now (λ x. (some.new ∷ all.new, spelled_all bytes.now x.now)) result (quantifier_clause_at N m.now (spelled_all bytes.now tokens.now)) }
+    ensures rest { IfOk result (λ x. IsShorter bytes.now tokens.now x.now) }
+{
+    if next_is(bytes, Terminal::Zero, tokens) {
+        no_sets(m, bytes, all, some, tokens)
+    } else if next_is(bytes, Terminal::Only(Class::AllWord), tokens) {
+        all_sets(m, bytes, all, some, tokens)
+    } else {
+        some_alone(m, bytes, all, some, tokens)
+    }
+}
+
+// A semicolon and a clause, which is appended.
+fn next_clause<'a, const N: usize>(
+    alloc: Global,
+    m: &Matrix<N>,
+    bytes: &[u8],
+    clauses: &mut List<QClause<N>>,
+    tokens: &'a [Token],
+) -> Rest<'a>
+    requires { AllIn bytes.now tokens.now }
+    ensures gives { Gives bytes.now (λ x. (clauses.new, spelled_all bytes.now x.now)) result (next_clause_at (quantifier_clause_at N m.now) clauses.old (spelled_all bytes.now tokens.now)) }
+    ensures rest { IfOk result (λ x. IsShorter bytes.now tokens.now x.now) }
+{
+    let (_, rest) = one(bytes, Terminal::Only(Class::Semicolon), tokens)?;
+    let mut all = List::new(alloc);
+    let mut some = m.designated();
+    let rest = quantifier_clause(m, bytes, &mut all, &mut some, rest)?;
+    clauses.push(QClause { all, some })?;
+    Ok(rest)
+}
+
+// Clauses behind others, each behind a semicolon.
+fn more_clauses<'a, const N: usize>(
+    alloc: Global,
+    m: &Matrix<N>,
+    bytes: &[u8],
+    clauses: &mut List<QClause<N>>,
+    tokens: &'a [Token],
+) -> Rest<'a>
+    requires { AllIn bytes.now tokens.now }
+    ensures gives { Gives bytes.now (λ x. (clauses.new, spelled_all bytes.now x.now)) result (more_clauses_at (quantifier_clause_at N m.now) clauses.old (spelled_all bytes.now tokens.now)) }
+    ensures rest { IfOk result (λ x. IsRest bytes.now tokens.now x.now) }
+{
+    let mut rest = tokens;
+    while next_is(bytes, Terminal::Only(Class::Semicolon), rest) {
+        rest = next_clause(alloc, m, bytes, clauses, rest)?;
+    }
+    Ok(rest)
+}
+
+// One clause or more.
+#[tactic(auto, unfolding(crate::specs::RuleReading::some_clauses_at))]
+fn some_clauses<'a, const N: usize>(
+    alloc: Global,
+    m: &Matrix<N>,
+    bytes: &[u8],
+    clauses: &mut List<QClause<N>>,
+    tokens: &'a [Token],
+) -> Rest<'a>
+    requires inside { AllIn bytes.now tokens.now }
+    requires none { clauses.old ≡ [] }
+    ensures gives { Gives bytes.now (λ x. (clauses.new, spelled_all bytes.now x.now)) result (some_clauses_at (quantifier_clause_at N m.now) (spelled_all bytes.now tokens.now)) }
+    ensures rest { IfOk result (λ x. IsRest bytes.now tokens.now x.now) }
+{
+    let mut all = List::new(alloc);
+    let mut some = m.designated();
+    let rest = quantifier_clause(m, bytes, &mut all, &mut some, tokens)?;
+    clauses.push(QClause { all, some })?;
+    more_clauses(alloc, m, bytes, clauses, rest)
+}
+
+/// Reads clauses with semicolons between them, or none.
+#[tactic(auto, unfolding(crate::specs::RuleReading::clauses_at))]
+pub(crate) fn read_quantifier_clauses<'a, const N: usize>(
+    alloc: Global,
+    m: &Matrix<N>,
+    bytes: &[u8],
+    clauses: &mut List<QClause<N>>,
+    tokens: &'a [Token],
+) -> Rest<'a>
+    requires inside { AllIn bytes.now tokens.now }
+    requires none { clauses.old ≡ [] }
+    ensures gives { Gives bytes.now (λ x. (clauses.new, spelled_all bytes.now x.now)) result (clauses_at starts_quantifier_clause (quantifier_clause_at N m.now) (spelled_all bytes.now tokens.now)) }
+    ensures rest { IfOk result (λ x. IsRest bytes.now tokens.now x.now) }
+{
+    if next_is(bytes, Terminal::QuantifierClause, tokens) {
+        some_clauses(alloc, m, bytes, clauses, tokens)
+    } else {
+        Ok(tokens)
+    }
+}
