@@ -10,7 +10,8 @@ use Rattle.lgc_values.specs.Logic.{Logic}
 use Rattle.lgc_clauses.specs.Rules.{Head, operator, quantifier, PlainRule, OperatorRule, QuantifierRule, of_operator, of_quantifier, Fits}
 use Rattle.lgc_clauses.specs.Kinds.{plain_rule}
 use Rattle.lgc_clauses.specs.declared.rule.Rule.{Rule}
-use Rattle.lgc_calculus.specs.Calculus.{head_of, heads_with_values, IsRightRule, AreRules, IsCalculus}
+use Rattle.lgc_calculus.specs.Calculus.{head_of, heads_with_values, IsRightRule, IsCalculus}
+use Rattle.lgc_calculus.specs.RuleLists.{AreRules}
 
 -- a head with each of the first n single values
 abbrev heads_below : Head → ℕ → List (Head × List ℕ)

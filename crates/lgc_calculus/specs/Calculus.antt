@@ -1,7 +1,6 @@
 -- The calculus of a logic.
-use Rattle.std.specs.Prelude.{◌≡◌, ℕ, List, [], ◌∷◌, ◌++◌, ◌*◌, ◌≤◌, length, map, All}
+use Rattle.std.specs.Prelude.{◌≡◌, ℕ, List, [], ◌∷◌, ◌++◌, length, map, All}
 use Rattle.std.specs.List.{flat_map, range_with_len}
-use Rattle.lgc_values.specs.declared.TheConstants.{MOST_VALUES}
 use Rattle.lgc_values.specs.Logic.{Logic}
 use Rattle.lgc_clauses.specs.Rules.{Head, operator, quantifier, PlainRule, Fits, IsRising, HasRisingSets}
 use Rattle.lgc_clauses.specs.Exactness.{IsExact}
@@ -27,12 +26,6 @@ pub record IsRightRule (logic : Logic) (rule : PlainRule) : Type 0 where
   pub irredundant : IsIrredundant logic rule
   pub rising : IsRising rule.clauses
   pub sets : All (HasRisingSets rule.head) rule.clauses
-
--- There is one right rule for each of the first heads of a kind and each single value, in order.
-pub record AreRules (logic : Logic) (head : ℕ → Head) (count : ℕ) (rules : List PlainRule) : Type 0 where
-  pub heads : map head_of rules ≡ heads_with_values logic.size head count
-  pub right : All (IsRightRule logic) rules
-  pub few : length rules ≤ count * MOST_VALUES
 
 -- There is one right rule for each operator and each single value, in order, and then one for each quantifier and each single value.
 pub record IsCalculus (logic : Logic) (rules : List PlainRule) : Type 0 where

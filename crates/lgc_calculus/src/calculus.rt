@@ -2,7 +2,8 @@
 ghost use Rattle.std.specs.Prelude.{◌<◌, ◌^◌, length, map, All, IfOk};
 ghost use Rattle.lgc_clauses.specs.Kinds.{plain_rule};
 ghost use Rattle.lgc_clauses.specs.Rules.{operator, quantifier, Fits};
-ghost use Rattle.lgc_calculus.specs.Calculus.{AreRules, IsCalculus};
+ghost use Rattle.lgc_calculus.specs.Calculus.{IsCalculus};
+ghost use Rattle.lgc_calculus.specs.RuleLists.{AreRules};
 
 use lgc_clauses::Rule;
 use lgc_op_rules::operator_rule;

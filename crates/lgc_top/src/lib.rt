@@ -2,9 +2,9 @@
 //! bytes that are put and the status of the run.
 //!
 //! [`run_multlog`] is the one call that the program makes. Its contract is the promise of the whole: with the status
-//! [`Status::Done`] the output of `calculus` gains the text of a calculus of the file's logic, each rule of which is exact,
-//! and that of `verify` the verdicts on the rules of a file. `specs/Run.antt` says of every status when it comes and what is
-//! put under it.
+//! [`Status::Done`] the output of `calculus` gains the text of a calculus of the file's logic, each rule of which is exact
+//! and irredundant, and that of `verify` the verdicts on the rules of a file. `specs/Run.antt` says of every status when it
+//! comes and what is put under it, and `specs/Means.antt` which status the files of a command mean.
 //!
 //! The words are told apart in `command`, and the files are read and the answer is made in `answer`, in the order of refusals:
 //! the first file, its faults, the second file, its faults, and then the work (`work`). `lgc_spec` reads the specification and
