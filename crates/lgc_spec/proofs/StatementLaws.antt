@@ -4,7 +4,8 @@ use Rattle.std.specs.Option.{option_or}
 use Rattle.std.proofs.lemmas.List.{take_more, take-append-drop}
 use Rattle.lgc_parser.specs.declared.tree.Statement.{Statement}
 use Rattle.lgc_spec.specs.Faults.{fault_at}
-use Rattle.lgc_spec.specs.Statements.{first_some, comes_again, keyword_of, second_fault, first_second}
+use Rattle.lgc_parser.specs.declared.tree.Statement.TheVariants.{Logic, Values, Designated, Ordering, Operator, Quantifier}
+use Rattle.lgc_spec.specs.Statements.{first_some, is_single, same_kind, comes_again, keyword_of, second_fault, first_second}
 use Rattle.lgc_spec.proofs.InOrderLaws.{first_fault_found, first_fault_more}
 
 first_some-append : {X Y : Type 0} (part : X → Option Y) (xs ys : List X) → first_some part (xs ++ ys) ≡ option_or (first_some part xs) (first_some part ys)
@@ -29,6 +30,19 @@ first_some_found part xs i x y lt e none here =
 
 pub first_some_passes : {X Y : Type 0} (part : X → Option Y) (xs : List X) (i : ℕ) (x : X) → i < length xs → x ≡ get_or xs i x → first_some part (take i xs) ≡ None → part x ≡ None → first_some part (take (i + 1) xs) ≡ None
 first_some_passes part xs i x lt e none here = first_some_more part xs i x lt e none ∙ here
+
+-- of other kinds there may be many
+other_kind : (s t : Statement) → is_single s ≡ false → same_kind s t ≡ false
+other_kind (Logic _ _) t e = absurd cc
+other_kind (Values _ _) t e = absurd cc
+other_kind (Designated _ _) t e = absurd cc
+other_kind (Ordering _ _) t e = refl
+other_kind (Operator _ _ _) t e = refl
+other_kind (Quantifier _ _) t e = refl
+
+pub never_again : (before : List Statement) (s : Statement) → is_single s ≡ false → comes_again before s ≡ false
+never_again [] s e = refl
+never_again (t ∷ before) s e = rw (other_kind s t e) (never_again before s e)
 
 second_fault-is : (before : List Statement) (s : Statement) (again is : Bool) → again ≡ comes_again before s → again ≡ is → second_fault before s ≡ cond is (Some (fault_at 4 (keyword_of s))) None
 second_fault-is before s again is e a = let now : comes_again before s ≡ is = sym e ∙ a in rw now refl

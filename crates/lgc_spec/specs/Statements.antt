@@ -1,23 +1,28 @@
 -- The statements that come once.
-use Rattle.std.specs.Prelude.{ℕ, ◌==◌, ◌&&◌, Bool, nat_le, List, [], ◌∷◌, Option, Some, None, Result, Ok, Err, if◌then◌else◌}
+use Rattle.std.specs.Prelude.{ℕ, Bool, true, false, List, [], ◌∷◌, Option, Some, None, Result, Ok, Err, if◌then◌else◌}
 use Rattle.std.specs.Option.{option_or}
 use Rattle.std.specs.List.{list_any}
 use Rattle.lgc_parser.specs.declared.tree.Word.{Word}
 use Rattle.lgc_parser.specs.declared.tree.Statement.{Statement}
-use Rattle.lgc_parser.specs.declared.tree.Statement.TheVariants.{Logic, Values, Designated, Ordering, Operator, Quantifier}
+use Rattle.lgc_parser.specs.declared.tree.Statement.TheVariants.{Logic, Values, Designated}
 use Rattle.lgc_spec.specs.declared.fault.SpecFault.{SpecFault}
 use Rattle.lgc_spec.specs.declared.fault.TheConstants.{DUPLICATE_STATEMENT, MISSING_STATEMENT}
 use Rattle.lgc_spec.specs.Faults.{fault_at}
 use Rattle.lgc_spec.specs.InOrder.{first_fault}
 
--- the kinds of statements, of which 0, 1 and 2 come at most once
-abbrev pub kind_of : Statement → ℕ
-kind_of (Logic _ _) = 0
-kind_of (Values _ _) = 1
-kind_of (Designated _ _) = 2
-kind_of (Ordering _ _) = 3
-kind_of (Operator _ _ _) = 4
-kind_of (Quantifier _ _) = 5
+-- whether there is at most one statement of this kind
+abbrev pub is_single : Statement → Bool
+is_single (Logic _ _) = true
+is_single (Values _ _) = true
+is_single (Designated _ _) = true
+is_single s = false
+
+-- whether two statements are of one kind, of which there is at most one
+abbrev pub same_kind : Statement → Statement → Bool
+same_kind (Logic _ _) (Logic _ _) = true
+same_kind (Values _ _) (Values _ _) = true
+same_kind (Designated _ _) (Designated _ _) = true
+same_kind s t = false
 
 -- the offset of the keyword of a statement that comes at most once
 abbrev pub keyword_of : Statement → ℕ
@@ -26,9 +31,9 @@ keyword_of (Values at _) = at
 keyword_of (Designated at _) = at
 keyword_of _ = 0
 
--- whether the statement comes at most once, and one of its kind stands before it
+-- whether a statement of its kind stands before it
 abbrev pub comes_again : List Statement → Statement → Bool
-comes_again before s = nat_le (kind_of s) 2 && list_any (λ t. kind_of t == kind_of s) before
+comes_again before s = list_any (same_kind s) before
 
 -- a second statement of a kind that comes at most once is a fault, at its word
 abbrev pub second_fault : List Statement → Statement → Option SpecFault

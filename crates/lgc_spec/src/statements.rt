@@ -1,23 +1,31 @@
 // The statements that come once.
-ghost use Rattle.std.specs.Prelude.{◌≡◌, ◌==◌, option_map, option_copied};
+ghost use Rattle.std.specs.Prelude.{◌≡◌, option_map, option_copied};
 ghost use Rattle.std.specs.List.{list_any};
 ghost use Rattle.lgc_spec.specs.Faults.{Passes};
-ghost use Rattle.lgc_spec.specs.Statements.{kind_of, keyword_of, comes_again, first_second, first_some, name_in, values_in, designated_in};
+ghost use Rattle.lgc_spec.specs.Statements.{is_single, same_kind, keyword_of, comes_again, first_second, first_some, name_in, values_in, designated_in};
 
 use crate::fault::{DUPLICATE_STATEMENT, SpecFault, fault_at};
 use lgc_parser::{Statement, Word};
 
-// The kinds of statements, of which 0, 1 and 2 come at most once.
-fn kind_of(statement: &Statement) -> u8
-    ensures { result ≡ kind_of statement.now }
+// Whether there is at most one statement of this kind.
+fn is_single(statement: &Statement) -> bool
+    ensures { result ≡ is_single statement.now }
 {
-    match statement {
-        Statement::Logic { .. } => 0,
-        Statement::Values { .. } => 1,
-        Statement::Designated { .. } => 2,
-        Statement::Ordering { .. } => 3,
-        Statement::Operator { .. } => 4,
-        Statement::Quantifier { .. } => 5,
+    matches!(
+        statement,
+        Statement::Logic { .. } | Statement::Values { .. } | Statement::Designated { .. }
+    )
+}
+
+// Whether both statements are of one kind, of which there is at most one.
+fn same_kind(a: &Statement, b: &Statement) -> bool
+    ensures { result ≡ same_kind a.now b.now }
+{
+    match (a, b) {
+        (Statement::Logic { .. }, Statement::Logic { .. }) => true,
+        (Statement::Values { .. }, Statement::Values { .. }) => true,
+        (Statement::Designated { .. }, Statement::Designated { .. }) => true,
+        _ => false,
     }
 }
 
@@ -32,20 +40,18 @@ fn keyword_of(statement: &Statement) -> u32
     }
 }
 
-fn has_kind(kind: u8, statements: &[Statement]) -> bool
-    ensures { result ≡ list_any (λ t. kind_of t == kind) statements.now }
+fn has_kind(statement: &Statement, statements: &[Statement]) -> bool
+    ensures { result ≡ list_any (same_kind statement.now) statements.now }
 {
-    statements
-        .iter()
-        .any(|statement| kind_of(statement) == kind)
+    statements.iter().any(|other| same_kind(statement, other))
 }
 
-// Only a statement that comes at most once is compared with those before it.
+// Only a statement of whose kind there is at most one is compared with those before it: the others may be many.
+#[tactic(auto, using(crate::proofs::StatementLaws::never_again))]
 fn comes_again(before: &[Statement], statement: &Statement) -> bool
     ensures { result ≡ comes_again before.now statement.now }
 {
-    let kind = kind_of(statement);
-    kind <= 2 && has_kind(kind, before)
+    is_single(statement) && has_kind(statement, before)
 }
 
 /// That no statement comes a second time that comes at most once.
