@@ -9,7 +9,7 @@ use Rattle.lgc_values.specs.Values.{has, mask_of}
 use Rattle.lgc_clauses.specs.Rules.{holds_over, set_of_row}
 use Rattle.lgc_derivation.specs.Tables.{PlainTable}
 use Rattle.lgc_derivation.specs.Derived.{IsPrime, IsSettled, Follows}
-use Rattle.lgc_quant_rules.specs.Quantifiers.{RiseByMask, IsOrderOf, IsOrderedClauseOf}
+use Rattle.lgc_quant_rules.specs.SetOrder.{RiseByMask, IsOrderOf, IsOrderedClauseOf}
 use Rattle.lgc_quant_rules.proofs.Rows.{row_has_values}
 
 -- rising sets differ

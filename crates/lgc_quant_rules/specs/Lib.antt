@@ -1,2 +1,3 @@
 pub mod Quantifiers
 pub mod Laws
+pub mod SetOrder

@@ -4,7 +4,7 @@ ghost use Rattle.std.specs.List.{list_all, list_any};
 ghost use Rattle.lgc_values.specs.Values.{IsSize, has};
 ghost use Rattle.lgc_values.specs.Logic.{value_over};
 ghost use Rattle.lgc_clauses.specs.Rules.{holds_over, set_of_row};
-ghost use Rattle.lgc_quant_rules.specs.Quantifiers.{IsOrderedClause};
+ghost use Rattle.lgc_quant_rules.specs.SetOrder.{IsOrderedClause};
 ghost use Rattle.lgc_quant_rules.specs.Laws.{holds_over_within};
 
 use crate::order::in_order;

@@ -70,7 +70,7 @@ pub fn run_multlog<F: Files, O: Sink, E: Sink>(
     // What each status says of the words and the files, and what then stands in the sinks.
     ensures run { Ends (run_of (map string_bytes words.now) (F.state files.old) (F.state files.new) (O.state out.old) (O.state out.new) (E.state err.old) (E.state err.new)) result }
 
-    // With `Done` the output of `calculus` gained the text of a calculus, each rule of which is exact.
+    // With `Done` the output of `calculus` gained the text of a calculus, each rule of which is exact and irredundant.
     ensures calculus { let run = run_of (map string_bytes words.now) (F.state files.old) (F.state files.new) (O.state out.old) (O.state out.new) (E.state err.old) (E.state err.new) in
         (file : List ℕ) → command_of (map string_bytes words.now) ≡ Some (Calculus file) → result ≡ Status.Done → PrintsCalculus run file }
 

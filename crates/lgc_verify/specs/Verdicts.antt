@@ -46,13 +46,13 @@ place_text (part.All i) = codes "all " ++ decimal i
 place_text part.Some = codes "some"
 
 -- `clause 2`
-abbrev pub clause_text : ℕ → List ℕ
-clause_text j = codes "clause " ++ decimal j
+abbrev pub clause_label : ℕ → List ℕ
+clause_label j = codes "clause " ++ decimal j
 
 -- `clause 2`, or `value f of argument 1 in clause 2`
 abbrev pub part_text : List (List ℕ) → Droppable → List ℕ
-part_text names (Clause j) = clause_text j
-part_text names (Value j part v) = codes "value " ++ value_text (slice_index_or names v []) ++ codes " of " ++ place_text part ++ codes " in " ++ clause_text j
+part_text names (Clause j) = clause_label j
+part_text names (Value j part v) = codes "value " ++ value_text (slice_index_or names v []) ++ codes " of " ++ place_text part ++ codes " in " ++ clause_label j
 
 abbrev pub verdict_text : Logic → PlainRule → Verdict → List ℕ
 verdict_text logic rule (Differs row) = codes "differs at " ++ row_text logic rule.head row

@@ -6,7 +6,7 @@ ghost use Rattle.lgc_clauses.specs.Kinds.{plain_rule};
 ghost use Rattle.lgc_clauses.specs.Rules.{operator, set_of_row, rows_of, Fits};
 ghost use Rattle.lgc_clauses.specs.Irredundance.{IsNumbered};
 ghost use Rattle.lgc_print.specs.Text.{set_text};
-ghost use Rattle.lgc_verify.specs.Verdicts.{IsVerdict, values_text, row_text, place_text, clause_text, part_text, verdict_text, line_text, IsRight, IsText};
+ghost use Rattle.lgc_verify.specs.Verdicts.{IsVerdict, values_text, row_text, place_text, clause_label, part_text, verdict_text, line_text, IsRight, IsText};
 
 use crate::verdict::{Verdict, is_right, judge};
 use lgc_clauses::{Droppable, Part, Rule};
@@ -123,7 +123,7 @@ fn put_place(alloc: Global, part: Part, into: &mut Vec<u8>) -> Result<(), AllocE
 }
 
 fn put_clause(alloc: Global, clause: u32, into: &mut Vec<u8>) -> Result<(), AllocError>
-    ensures { OnOk result (into.new.items ≡ into.old.items ++ clause_text clause) }
+    ensures { OnOk result (into.new.items ≡ into.old.items ++ clause_label clause) }
 {
     into.extend_from_slice(b"clause ")?;
     put_number(alloc, clause, into)

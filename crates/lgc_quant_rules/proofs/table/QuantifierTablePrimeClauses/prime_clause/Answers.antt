@@ -5,7 +5,8 @@ use Rattle.std.proofs.lemmas.Bool.{both_ways}
 use Rattle.std.proofs.lemmas.List.{with_items_is}
 use Rattle.lgc_clauses.specs.Rules.{holds_over, set_of_row}
 use Rattle.lgc_derivation.proofs.Within.{within_length}
-use Rattle.lgc_quant_rules.specs.Quantifiers.{clause_against, IsOrderedClauseOf}
+use Rattle.lgc_quant_rules.specs.Quantifiers.{clause_against}
+use Rattle.lgc_quant_rules.specs.SetOrder.{IsOrderedClauseOf}
 use Rattle.lgc_quant_rules.proofs.Starts.{against_holds, smaller_fails}
 use Rattle.lgc_quant_rules.proofs.Rows.{row_values_below, same_row}
 use Rattle.lgc_quant_rules.proofs.Primes.{prime_ordered, ordered_fails}
