@@ -30,6 +30,3 @@ pub use clause::{Clause, QClause, clause_true_at, qclause_true_at};
 pub use exactness::rule_exact;
 pub use irredundance::{Droppable, Part, rule_irredundant};
 pub use rule::{OpRule, QRule, Rule};
-
-#[cfg(test)]
-mod tests;

@@ -16,6 +16,3 @@ pub use files::{FileFault, Files, Reading};
 pub use host::{HostFiles, StreamSink};
 pub use memory::{MemoryFiles, MemorySink};
 pub use sink::{Sink, SinkFault};
-
-#[cfg(test)]
-mod tests;

@@ -19,6 +19,3 @@ mod rule;
 mod table;
 
 pub use rule::operator_rule;
-
-#[cfg(test)]
-mod tests;

@@ -17,7 +17,5 @@
 
 mod order;
 mod table;
-#[cfg(test)]
-mod tests;
 
 pub use order::{Order, OrderFault};

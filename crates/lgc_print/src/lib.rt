@@ -10,7 +10,5 @@
 #![tactic(auto)]
 
 mod rules;
-#[cfg(test)]
-mod tests;
 
 pub use rules::{calculus_text, put_number, put_set, put_value, write_rule};

@@ -25,6 +25,3 @@ mod start;
 mod table;
 
 pub use rule::quantifier_rule;
-
-#[cfg(test)]
-mod tests;

@@ -6,8 +6,6 @@
 #![tactic(auto)]
 
 mod signs;
-#[cfg(test)]
-mod tests;
 mod text;
 
 pub use signs::have_signs;

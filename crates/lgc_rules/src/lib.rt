@@ -22,6 +22,3 @@ mod terminal;
 
 pub use file::{LONGEST_FILE, read_rules, rule_at};
 pub use rule::Numbered;
-
-#[cfg(test)]
-mod tests;

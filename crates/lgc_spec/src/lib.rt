@@ -25,8 +25,6 @@ mod sets;
 mod spec;
 mod statements;
 mod table;
-#[cfg(test)]
-mod tests;
 mod texts;
 mod values;
 mod words;

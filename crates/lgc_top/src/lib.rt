@@ -16,8 +16,6 @@ mod command;
 mod fault_line;
 mod run;
 mod status;
-#[cfg(test)]
-mod tests;
 mod work;
 
 pub use run::run_multlog;

@@ -36,6 +36,3 @@ pub const MOST_SYMBOLS: usize = 4096;
 
 /// The single quote, which stands around names and in none.
 pub const QUOTE: u8 = b'\'';
-
-#[cfg(test)]
-mod tests;

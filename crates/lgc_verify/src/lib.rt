@@ -11,6 +11,3 @@ mod verdict;
 
 pub use text::{Judged, judge_rules};
 pub use verdict::{Verdict, judge};
-
-#[cfg(test)]
-mod tests;
