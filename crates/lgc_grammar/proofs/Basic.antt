@@ -1,11 +1,11 @@
 -- Readers of one token and of none, and readers with another tree.
 --
 -- Most lemmas on readers come in two forms. `.._reads` speaks of a plain language beside the grammar; `.._all` is for a
--- grammar without other rules, whose plain language is that of its own phrases.
-use Rattle.std.proofs.Common.{◌≡◌, Bool, true, false, List, [], ◌∷◌, ◌++◌, Result, Ok, Err, refl, sym, ap, subst, ◌∙◌, inl, inr, ◌⊎◌}
+-- grammar where no token breaks a rule, whose plain language is that of its own phrases.
+use Rattle.std.proofs.Common.{◌≡◌, Bool, true, false, List, [], ◌∷◌, ◌++◌, Result, Ok, Err, refl, sym, ap, ◌∙◌, inl, inr, ◌⊎◌}
 use Rattle.lgc_grammar.specs.Grammar.{Grammar, Language, Why, Unexpected, Breaks, One, Nothing, Mapped, PlainOne, PlainNothing}
 use Rattle.lgc_grammar.specs.Reading.{Reader, and_then, next_is, one_at, nothing_at, map_at}
-use Rattle.lgc_grammar.proofs.Readers.{Reads, ReadsAll, Took, Stuck, Start, Must, May, StartsBy, IsReadOrBreaks, never, ok, ok_rest, ok_tree, err_rest, err_why, and_then_ok, and_then_err, next_alike, either_way, reads_all}
+use Rattle.lgc_grammar.proofs.Readers.{Reads, ReadsAll, Took, Stuck, Start, Must, May, StartsBy, IsReadOrBreaks, never, ok, ok_rest, ok_tree, and_then_ok, and_then_err, next_alike, either_way, viable_as, stops_here, took_at, stuck_at, reads_all}
 
 -- ---- one token
 
@@ -23,25 +23,23 @@ module _ {T : Type 0} (test : T → Bool) where
     where
       by : (test t ≡ true) ⊎ (test t ≡ false) → Took (one_at test) (One test) (t ∷ ts) a rest
       by (inl h) =
-          let f = sym (takes t ts h) ∙ e in
           let here : Took (one_at test) (One test) (t ∷ ts) t ts = record { front = t ∷ []; split = refl; phrase = (h, refl); near = λ other look. takes t other h } in
-          subst (λ (b : T). Took (one_at test) (One test) (t ∷ ts) b rest) (ok_tree f) (subst (λ (r : List T). Took (one_at test) (One test) (t ∷ ts) t r) (ok_rest f) here)
+          took_at (t ∷ ts) here (sym (takes t ts h) ∙ e)
       by (inr h) = let f = sym (unexpected (t ∷ ts) h) ∙ e in absurd cc
 
   module _ (t : T) (passes : test t ≡ true) where
-    one_stuck : (ts rest : List T) (why : Why) → one_at test ts ≡ Err (rest, why) → Stuck (one_at test) (PlainOne test) ts rest why
+    one_stuck : (ts rest : List T) (why : Why) → one_at test ts ≡ Err (rest, why) → Stuck (one_at test) (One test) (PlainOne test) ts rest why
     one_stuck ts rest why e = by (either_way (next_is test ts))
       where
         taken : (ts : List T) → next_is test ts ≡ true → one_at test ts ≡ Err (rest, why) → ⊥
         taken [] h f = cc
         taken (u ∷ us) h f = let g = sym (takes u us h) ∙ f in cc
 
-        by : (next_is test ts ≡ true) ⊎ (next_is test ts ≡ false) → Stuck (one_at test) (PlainOne test) ts rest why
+        by : (next_is test ts ≡ true) ⊎ (next_is test ts ≡ false) → Stuck (one_at test) (One test) (PlainOne test) ts rest why
         by (inl h) = absurd (taken ts h e)
         by (inr h) =
-            let f = sym (unexpected ts h) ∙ e in
-            let here : Stuck (one_at test) (PlainOne test) ts ts Unexpected = record { front = []; split = refl; viable = (t ∷ [], (t, (passes, refl))); near = λ other look. unexpected other (sym (next_alike test [] ts other look) ∙ h) } in
-            subst (λ (w : Why). Stuck (one_at test) (PlainOne test) ts rest w) (err_why f) (subst (λ (r : List T). Stuck (one_at test) (PlainOne test) ts r Unexpected) (err_rest f) here)
+            let here : Stuck (one_at test) (One test) (PlainOne test) ts ts Unexpected = record { front = []; split = refl; viable = (t ∷ [], (t, (passes, refl))); near = λ other look. unexpected other (sym (next_alike test [] ts other look) ∙ h) } in
+            stuck_at ts here (sym (unexpected ts h) ∙ e)
 
     -- t is a token that passes
     pub one_reads : Reads (one_at test) (One test) (PlainOne test) (Must test) never
@@ -49,6 +47,7 @@ module _ {T : Type 0} (test : T → Bool) where
       took = one_took;
       stuck = one_stuck;
       complete = λ a front rest h _. rw (h.1, h.0) refl;
+      broken = λ n ts h. absurd h;
       plain = λ front rest h _. let (u, (is, split)) = h in rw (split, is) refl;
       is_plain = λ a ts h. (a, h);
       starts = unexpected;
@@ -62,6 +61,7 @@ pub nothing_reads : {T A : Type 0} (c : A) (go : T → Bool) → Reads (nothing_
 nothing_reads {T} {A} c go = record {
   took = λ ts a rest e. let same : ts ≡ rest = ok_rest e in record { front = []; split = same; phrase = (sym (ok_tree e), refl); near = λ other look. ap (λ (b : A). ok (b, other)) (ok_tree e) };
   stuck = λ ts rest why e. absurd cc;
+  broken = λ n ts h. absurd h;
   complete = λ a front rest h _. rw (h.0, h.1) refl;
   plain = λ front rest h _. rw h refl;
   is_plain = λ a ts h. h.1;
@@ -93,11 +93,11 @@ module _ {T A B : Type 0} (f : A → B) {p : Reader T A} where
         let k = reads.took ts x.0 rest (s.1 ∙ ap (λ (r : List T). ok {A = A × List T} (x.0, r)) same) in
         record { front = k.front; split = k.split; phrase = (x.0, sym tree, k.phrase); near = λ other look. map_ok x.0 (k.front ++ other) other (k.near other look) ∙ ap (λ (d : B). ok {A = B × List T} (d, other)) tree }
 
-    map_stuck : (ts rest : List T) (why : Why) → map_at f p ts ≡ Err (rest, why) → Stuck (map_at f p) P ts rest why
+    map_stuck : (ts rest : List T) (why : Why) → map_at f p ts ≡ Err (rest, why) → Stuck (map_at f p) (Mapped f L) P ts rest why
     map_stuck ts rest why e = by (and_then_err (p ts) (λ x. Ok (f x.0, x.1)) (rest, why) e)
       where
-        by : (p ts ≡ Err (rest, why)) ⊎ ((x : A × List T) × (p ts ≡ Ok x) × (ok {A = B × List T} {E = List T × Why} (f x.0, x.1) ≡ Err (rest, why))) → Stuck (map_at f p) P ts rest why
-        by (inl g) = let k = reads.stuck ts rest why g in record { front = k.front; split = k.split; viable = k.viable; near = λ other look. rw (k.near other look) refl }
+        by : (p ts ≡ Err (rest, why)) ⊎ ((x : A × List T) × (p ts ≡ Ok x) × (ok {A = B × List T} {E = List T × Why} (f x.0, x.1) ≡ Err (rest, why))) → Stuck (map_at f p) (Mapped f L) P ts rest why
+        by (inl g) = let k = reads.stuck ts rest why g in record { front = k.front; split = k.split; viable = viable_as L (Mapped f L) P P k.front rest why (λ n w h. h) (λ v h. h) k.viable; near = λ other look. rw (k.near other look) refl }
         by (inr (x, took, g)) = absurd cc
 
     pub map_reads : Reads (map_at f p) (Mapped f L) P start go
@@ -105,6 +105,7 @@ module _ {T A B : Type 0} (f : A → B) {p : Reader T A} where
       took = map_took;
       stuck = map_stuck;
       complete = λ b front rest h ends. rw h.1 (map_ok h.0 (front ++ rest) rest (reads.complete h.0 front rest h.2 ends));
+      broken = λ n ts h. let s = reads.broken n ts h in stops_here s (λ rest. rw (s.stops rest) refl) s.goes_on;
       plain = λ front rest h ends. by rest (p (front ++ rest)) (reads.plain front rest h ends);
       is_plain = λ b ts h. reads.is_plain h.0 ts h.2;
       starts = map_starts f p start reads.starts;

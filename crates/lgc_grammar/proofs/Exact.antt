@@ -20,20 +20,20 @@ order_of {T} (t ∷ f) (u ∷ g) r s e = by (order_of f g r s cc)
     by (inr (inl (v, m, h, k))) = inr (inl (v, m, rw (same, h) refl, k))
     by (inr (inr h)) = inr (inr h)
 
-module _ {T : Type 0} {P : Language T} where
+module _ {T A : Type 0} (L : Grammar T A) {P : Language T} where
   -- no phrase begins with a front and the next token, so no front goes further
-  no_further : (ts r s : List T) (x : StopsAt P ts r Unexpected) (y : StopsAt P ts s Unexpected) (t : T) (m : List T) → y.front ≡ x.front ++ t ∷ m → r ≡ t ∷ m ++ s → ⊥
+  no_further : (ts r s : List T) (x : StopsAt L P ts r Unexpected) (y : StopsAt L P ts s Unexpected) (t : T) (m : List T) → y.front ≡ x.front ++ t ∷ m → r ≡ t ∷ m ++ s → ⊥
   no_further ts r s x y t m goes next =
       let (more, h) = y.reason.0 in
       let way : P ((x.front ++ t ∷ []) ++ (m ++ more)) = subst P (ap (λ (f : List T). f ++ more) goes ∙ simp append_assoc) h in
       by r next x (m ++ more, way)
     where
-      by : (r : List T) → r ≡ t ∷ m ++ s → (x : StopsAt P ts r Unexpected) → ((more : List T) × P ((x.front ++ t ∷ []) ++ more)) → ⊥
+      by : (r : List T) → r ≡ t ∷ m ++ s → (x : StopsAt L P ts r Unexpected) → ((more : List T) × P ((x.front ++ t ∷ []) ++ more)) → ⊥
       by [] e x way = cc
       by (u ∷ rest) e x way = let same : t ≡ u = cc in x.reason.1 (way.0, subst (λ (v : T). P ((x.front ++ v ∷ []) ++ way.0)) same way.1)
 
   -- reading stops at one place
-  pub stops_once : (ts r s : List T) → StopsAt P ts r Unexpected → StopsAt P ts s Unexpected → r ≡ s
+  pub stops_once : (ts r s : List T) → StopsAt L P ts r Unexpected → StopsAt L P ts s Unexpected → r ≡ s
   stops_once ts r s x y = by (order_of x.front y.front r s (sym x.split ∙ y.split))
     where
       by : ((t : T) × (m : List T) × (y.front ≡ x.front ++ t ∷ m) × (r ≡ t ∷ m ++ s)) ⊎ (((t : T) × (m : List T) × (x.front ≡ y.front ++ t ∷ m) × (s ≡ t ∷ m ++ r)) ⊎ (r ≡ s)) → r ≡ s
@@ -42,7 +42,7 @@ module _ {T : Type 0} {P : Language T} where
       by (inr (inr h)) = h
 
   -- and not in a phrase
-  pub stops_in_none : (ts r : List T) → StopsAt P ts r Unexpected → P ts → ⊥
+  pub stops_in_none : (ts r : List T) → StopsAt L P ts r Unexpected → P ts → ⊥
   stops_in_none ts [] x h = x.reason.1 (subst P (x.split ∙ append-nil x.front) h)
   stops_in_none ts (t ∷ r) x h = x.reason.1 (r, subst P (x.split ∙ sym (append_assoc x.front (t ∷ []) r)) h)
 
@@ -52,5 +52,5 @@ whole_exact reads ts (Ok a) h = whole_complete reads a ts h
 whole_exact {T} {A} {p} {L} reads ts (Err (rest, why)) (is, stops) = by (whole p ts) (whole_answers_all reads ts)
   where
     by : (r : Result A (List T × Why)) → AnswersAll L ts r → r ≡ Err (rest, why)
-    by (Ok a) h = absurd (stops_in_none ts rest stops (a, h))
-    by (Err (other, reason)) (same, h) = rw (same, is, stops_once ts other rest h stops) refl
+    by (Ok a) h = absurd (stops_in_none L ts rest stops (a, h))
+    by (Err (other, reason)) (same, h) = rw (same, is, stops_once L ts other rest h stops) refl

@@ -2,8 +2,11 @@ pub mod Readers
 pub mod Basic
 pub mod Sequences
 pub mod Choices
-pub mod Rules
 pub mod Repetitions
+pub mod GrowingTrees
+pub mod EndingTurns
+pub mod AllowedTokens
+pub mod RefusedTokens
+pub mod Exact
 pub mod Loops
 pub mod Classes
-pub mod Exact

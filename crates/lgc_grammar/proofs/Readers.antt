@@ -7,7 +7,7 @@
 -- its own.
 use Rattle.std.proofs.Common.{◌≡◌, ℕ, Bool, true, false, List, [], ◌∷◌, ◌++◌, Result, Ok, Err, refl, sym, ap, subst, ◌∙◌, append_assoc, append-nil, inl, inr, ◌⊎◌, length, arith, length-append}
 use Rattle.std.specs.Prelude.{◌||◌}
-use Rattle.lgc_grammar.specs.Grammar.{Grammar, Language, Phrase, Why, Unexpected, Breaks, IsFront, HasNoWay, GoesOn, Reason, Answers, AnswersAll}
+use Rattle.lgc_grammar.specs.Grammar.{Grammar, Language, Phrase, Why, Unexpected, Breaks, IsFront, HasNoWay, Reason, Answers, AnswersAll, NextBreaks}
 use Rattle.lgc_grammar.specs.Reading.{Reader, and_then, next_is, ended, whole}
 
 -- ---- the definition
@@ -23,20 +23,28 @@ SameNext (t ∷ ts) (u ∷ us) = t ≡ u
 pub record Took {T A : Type 0} (p : Reader T A) (L : Grammar T A) (ts : List T) (a : A) (rest : List T) : Type 0 where
   pub front : List T
   pub split : ts ≡ front ++ rest
-  pub phrase : L a front
+  pub phrase : L (Ok a) front
   pub near : (other : List T) → SameNext rest other → p (front ++ other) ≡ Ok (a, other)
 
--- The tokens before begin a phrase, and where the next one breaks a rule they do so together with it.
-abbrev pub IsViable : {T : Type 0} → Language T → Why → List T → List T → Type 0
-IsViable P Unexpected front rest = IsFront P front
-IsViable P (Breaks n) front rest = GoesOn P front rest
+-- The tokens before begin a phrase, or the grammar says which rule the next one breaks.
+abbrev pub IsViable : {T A : Type 0} → Grammar T A → Language T → Why → List T → List T → Type 0
+IsViable L P Unexpected front rest = IsFront P front
+IsViable L P (Breaks n) front rest = NextBreaks L n front rest
 
 -- p stops before a token, and looks no further.
-pub record Stuck {T A : Type 0} (p : Reader T A) (P : Language T) (ts rest : List T) (why : Why) : Type 0 where
+pub record Stuck {T A : Type 0} (p : Reader T A) (L : Grammar T A) (P : Language T) (ts rest : List T) (why : Why) : Type 0 where
   pub front : List T
   pub split : ts ≡ front ++ rest
-  pub viable : IsViable P why front rest
+  pub viable : IsViable L P why front rest
   pub near : (other : List T) → SameNext rest other → p (front ++ other) ≡ Err (other, why)
+
+-- p stops before the last of these tokens, which breaks the rule n, whatever is behind it. The plain language goes on with them.
+pub record StopsIn {T A : Type 0} (p : Reader T A) (P : Language T) (n : ℕ) (ts : List T) : Type 0 where
+  pub front : List T
+  pub last : T
+  pub split : ts ≡ front ++ last ∷ []
+  pub stops : (rest : List T) → p (front ++ last ∷ rest) ≡ Err (last ∷ rest, Breaks n)
+  pub goes_on : IsFront P ts
 
 -- All but these tokens was read, or a rule was broken; no token was unexpected.
 abbrev pub IsReadOrBreaks : {T A : Type 0} → List T → Result (A × List T) (List T × Why) → Type 0
@@ -59,17 +67,20 @@ StartsBy {T} {A} p (May first) = (ts : List T) → next_is first ts ≡ false �
 pub record Reads {T A : Type 0} (p : Reader T A) (L : Grammar T A) (P : Language T) (start : Start T) (go : T → Bool) : Type 0 where
   -- what is taken is a phrase, and what stops it can't be helped
   pub took : (ts : List T) (a : A) (rest : List T) → p ts ≡ Ok (a, rest) → Took p L ts a rest
-  pub stuck : (ts rest : List T) (why : Why) → p ts ≡ Err (rest, why) → Stuck p P ts rest why
-  -- each phrase is read, and each plain one is read up to a token that breaks a rule
-  pub complete : (a : A) (front rest : List T) → L a front → next_is go rest ≡ false → p (front ++ rest) ≡ Ok (a, rest)
+  pub stuck : (ts rest : List T) (why : Why) → p ts ≡ Err (rest, why) → Stuck p L P ts rest why
+  -- each phrase is read
+  pub complete : (a : A) (front rest : List T) → L (Ok a) front → next_is go rest ≡ false → p (front ++ rest) ≡ Ok (a, rest)
+  -- where the grammar says that a token breaks a rule, p stops before it and tells the rule
+  pub broken : (n : ℕ) (ts : List T) → L (Err n) ts → StopsIn p P n ts
+  -- each plain phrase is read up to a token that breaks a rule
   pub plain : (front rest : List T) → P front → next_is go rest ≡ false → IsReadOrBreaks rest (p (front ++ rest))
-  pub is_plain : (a : A) (ts : List T) → L a ts → P ts
+  pub is_plain : (a : A) (ts : List T) → L (Ok a) ts → P ts
   pub starts : StartsBy p start
   -- there is some tree, and some plain phrase
   pub some : A
   pub example : (front : List T) × P front
 
--- p reads the phrases of L, which has no other rules.
+-- p reads the phrases of L, where no token breaks a rule.
 abbrev pub ReadsAll : {T A : Type 0} → Reader T A → Grammar T A → Start T → (T → Bool) → Type 0
 ReadsAll p L start go = Reads p L (Phrase L) start go
 
@@ -131,6 +142,11 @@ next_alike test [] (t ∷ rest) [] look = absurd look
 next_alike test [] (t ∷ rest) (u ∷ other) look = ap test look
 next_alike test (t ∷ front) rest other look = refl
 
+-- one test of the first token, on lists that agree up to a token
+first_alike : {T : Type 0} (test : T → Bool) (g : List T) (t : T) (more rest : List T) → next_is test (((g ++ t ∷ []) ++ more) ++ []) ≡ next_is test (g ++ t ∷ rest)
+first_alike test [] t more rest = refl
+first_alike test (u ∷ g) t more rest = refl
+
 pub same_behind : {T : Type 0} (w rest other : List T) → SameNext rest other → SameNext (w ++ rest) (w ++ other)
 same_behind [] rest other look = look
 same_behind (t ∷ w) rest other look = refl
@@ -167,31 +183,73 @@ either_way true = inl refl
 either_way false = inr refl
 
 -- what begins a phrase of P begins one of Q, where each phrase of P stands in one of Q behind `pre`
-pub viable_in : {T : Type 0} (P Q : Language T) (pre front rest : List T) (why : Why) → ((v : List T) → P v → (w : List T) × Q (pre ++ (v ++ w))) → IsViable P why front rest → IsViable Q why (pre ++ front) rest
-viable_in P Q pre front rest Unexpected stands (more, h) =
+pub front_in : {T : Type 0} (P Q : Language T) (pre front : List T) → ((v : List T) → P v → (w : List T) × Q (pre ++ (v ++ w))) → IsFront P front → IsFront Q (pre ++ front)
+front_in P Q pre front stands (more, h) =
     let (w, g) = stands (front ++ more) h in
     let same : pre ++ ((front ++ more) ++ w) ≡ (pre ++ front) ++ (more ++ w) = simp append_assoc in
     (more ++ w, subst Q same g)
-viable_in P Q pre front [] (Breaks n) stands h = absurd h
-viable_in P Q pre front (t ∷ rest) (Breaks n) stands (more, h) =
-    let (w, g) = stands ((front ++ t ∷ []) ++ more) h in
-    let same : pre ++ (((front ++ t ∷ []) ++ more) ++ w) ≡ ((pre ++ front) ++ t ∷ []) ++ (more ++ w) = simp append_assoc in
-    (more ++ w, subst Q same g)
 
 -- the same where each phrase of P is one of Q
-pub viable_as : {T : Type 0} (P Q : Language T) (front rest : List T) (why : Why) → ((v : List T) → P v → Q v) → IsViable P why front rest → IsViable Q why front rest
-viable_as P Q front rest why is = viable_in P Q [] front rest why (λ v h. ([], rw (append-nil v) (is v h)))
+pub front_as : {T : Type 0} (P Q : Language T) (front : List T) → ((v : List T) → P v → Q v) → IsFront P front → IsFront Q front
+front_as P Q front is (more, h) = (more, is (front ++ more) h)
+
+-- and what the first grammar says of broken rules, the second says behind `pre`
+pub viable_in : {T A B : Type 0} (L : Grammar T A) (M : Grammar T B) (P Q : Language T) (pre front rest : List T) (why : Why) → ((n : ℕ) (w : List T) → L (Err n) w → M (Err n) (pre ++ w)) → ((v : List T) → P v → (w : List T) × Q (pre ++ (v ++ w))) → IsViable L P why front rest → IsViable M Q why (pre ++ front) rest
+viable_in L M P Q pre front rest Unexpected breaks stands h = front_in P Q pre front stands h
+viable_in L M P Q pre front [] (Breaks n) breaks stands h = absurd h
+viable_in L M P Q pre front (t ∷ rest) (Breaks n) breaks stands h = rw (append_assoc pre front (t ∷ [])) (breaks n (front ++ t ∷ []) h)
+
+pub viable_as : {T A B : Type 0} (L : Grammar T A) (M : Grammar T B) (P Q : Language T) (front rest : List T) (why : Why) → ((n : ℕ) (w : List T) → L (Err n) w → M (Err n) w) → ((v : List T) → P v → Q v) → IsViable L P why front rest → IsViable M Q why front rest
+viable_as L M P Q front rest why breaks is = viable_in L M P Q [] front rest why breaks (λ v h. ([], rw (append-nil v) (is v h)))
+
+-- lists that end in one token each
+last_same : {T : Type 0} (f g : List T) (t u : T) → f ++ t ∷ [] ≡ g ++ u ∷ [] → (f ≡ g) × (t ≡ u)
+last_same [] [] t u e = (refl, cc)
+last_same [] (x ∷ []) t u e = absurd cc
+last_same [] (x ∷ (y ∷ g)) t u e = absurd cc
+last_same (x ∷ []) [] t u e = absurd cc
+last_same (x ∷ (y ∷ f)) [] t u e = absurd cc
+last_same (x ∷ f) (y ∷ g) t u e = let below = last_same f g t u cc in let head : x ≡ y = cc in (rw (head, below.0) refl, below.1)
+
+-- ---- tokens that break rules
+
+module _ {T A : Type 0} {p : Reader T A} {P : Language T} {n : ℕ} {ts : List T} (s : StopsIn p P n ts) where
+  -- what a phrase that goes on with these tokens begins with, any tokens that begin with them do
+  pub first_of : (test : T → Bool) (b : Bool) (more : List T) → next_is test ((ts ++ more) ++ []) ≡ b → (rest : List T) → next_is test (s.front ++ s.last ∷ rest) ≡ b
+  first_of test b more h rest = sym (first_alike test s.front s.last more rest) ∙ subst (λ (u : List T). next_is test ((u ++ more) ++ []) ≡ b) s.split h
+
+  -- another reader that stops there
+  pub stops_here : {B : Type 0} {q : Reader T B} {Q : Language T} → ((rest : List T) → q (s.front ++ s.last ∷ rest) ≡ Err (s.last ∷ rest, Breaks n)) → IsFront Q ts → StopsIn q Q n ts
+  stops_here stops goes_on = record { front = s.front; last = s.last; split = s.split; stops = stops; goes_on = goes_on }
+
+  -- another reader that stops there, behind a phrase
+  pub stops_behind : {B : Type 0} {q : Reader T B} {Q : Language T} (v : List T) → ((rest : List T) → q (v ++ (s.front ++ s.last ∷ rest)) ≡ Err (s.last ∷ rest, Breaks n)) → IsFront Q (v ++ ts) → StopsIn q Q n (v ++ ts)
+  stops_behind v stops goes_on = record {
+    front = v ++ s.front;
+    last = s.last;
+    split = ap (λ (u : List T). v ++ u) s.split ∙ sym (append_assoc v s.front (s.last ∷ []));
+    stops = λ rest. rw (append_assoc v s.front (s.last ∷ rest)) (stops rest);
+    goes_on = goes_on;
+  }
+
+-- ---- one account of what was taken or stopped, at other names
+
+pub took_at : {T A : Type 0} {p : Reader T A} {L : Grammar T A} (ts : List T) {a b : A} {r rest : List T} → Took p L ts a r → ok {A = A × List T} {E = List T × Why} (a, r) ≡ Ok (b, rest) → Took p L ts b rest
+took_at {T} {A} {p} {L} ts {a} {b} {r} {rest} k e = subst (λ (x : A). Took p L ts x rest) (ok_tree e) (subst (λ (x : List T). Took p L ts a x) (ok_rest e) k)
+
+pub stuck_at : {T A : Type 0} {p : Reader T A} {L : Grammar T A} {P : Language T} (ts : List T) {r rest : List T} {w why : Why} → Stuck p L P ts r w → err {A = A × List T} {E = List T × Why} (r, w) ≡ Err (rest, why) → Stuck p L P ts rest why
+stuck_at {T} {A} {p} {L} {P} ts {r} {rest} {w} {why} k e = subst (λ (x : Why). Stuck p L P ts rest x) (err_why e) (subst (λ (x : List T). Stuck p L P ts x w) (err_rest e) k)
 
 -- ---- all of the tokens
 
 module _ {T A : Type 0} {p : Reader T A} {L : Grammar T A} {P : Language T} {start : Start T} {go : T → Bool} (reads : Reads p L P start go) where
   -- a phrase is read whole, so it has no other tree
-  pub whole_complete : (a : A) (ts : List T) → L a ts → whole p ts ≡ Ok a
+  pub whole_complete : (a : A) (ts : List T) → L (Ok a) ts → whole p ts ≡ Ok a
   whole_complete a ts h =
       let one : p ts ≡ Ok (a, []) = rw (append-nil ts) at (reads.complete a ts [] h refl) in
       rw one refl
 
-  pub one_tree : (a b : A) (ts : List T) → L a ts → L b ts → a ≡ b
+  pub one_tree : (a b : A) (ts : List T) → L (Ok a) ts → L (Ok b) ts → a ≡ b
   one_tree a b ts h g = let e = sym (reads.complete a ts [] h refl) ∙ reads.complete b ts [] g refl in ok_tree e
 
   -- no plain phrase has an unexpected token
@@ -204,7 +262,7 @@ module _ {T A : Type 0} {p : Reader T A} {L : Grammar T A} {P : Language T} {sta
       let none : (t ∷ rest) ≡ [] = rw e at one in
       cc
 
-  no_way_stuck : (ts rest : List T) → (s : Stuck p P ts rest Unexpected) → HasNoWay P s.front rest
+  no_way_stuck : (ts rest : List T) → (s : Stuck p L P ts rest Unexpected) → HasNoWay P s.front rest
   no_way_stuck ts [] s = λ h. stops_none (s.front ++ []) [] (rw (append-nil s.front) h) (s.near [] tt)
   no_way_stuck ts (t ∷ rest) s = λ (more, h).
       let same : (s.front ++ t ∷ []) ++ more ≡ s.front ++ t ∷ more = append_assoc s.front (t ∷ []) more in
@@ -219,9 +277,10 @@ module _ {T A : Type 0} {p : Reader T A} {L : Grammar T A} {P : Language T} {sta
   pub whole_answers : (ts : List T) → Answers L P ts (whole p ts)
   whole_answers ts = by (p ts) refl
     where
-      reason : (rest : List T) (why : Why) (s : Stuck p P ts rest why) → Reason P why s.front rest
+      reason : (rest : List T) (why : Why) (s : Stuck p L P ts rest why) → Reason L P why s.front rest
       reason rest Unexpected s = (s.viable, no_way_stuck ts rest s)
-      reason rest (Breaks n) s = s.viable
+      reason [] (Breaks n) s = absurd s.viable
+      reason (t ∷ rest) (Breaks n) s = let b = reads.broken n (s.front ++ t ∷ []) s.viable in (b.goes_on, s.viable)
 
       by : (r : Result (A × List T) (List T × Why)) → p ts ≡ r → Answers L P ts (and_then r ended)
       by (Err (rest, why)) e = let s = reads.stuck ts rest why e in record { front = s.front; split = s.split; reason = reason rest why s }
@@ -229,6 +288,17 @@ module _ {T A : Type 0} {p : Reader T A} {L : Grammar T A} {P : Language T} {sta
       by (Ok (a, t ∷ rest)) e =
           let k = reads.took ts a (t ∷ rest) e in
           record { front = k.front; split = k.split; reason = (([], rw (append-nil k.front) (reads.is_plain a k.front k.phrase)), no_way_took ts a t rest k) }
+
+  stops_at_same : (n : ℕ) (rest f g : List T) (t u : T) → f ≡ g → t ≡ u → p (g ++ u ∷ rest) ≡ Err (u ∷ rest, Breaks n) → p (f ++ t ∷ rest) ≡ Err (t ∷ rest, Breaks n)
+  stops_at_same n rest f g t u e d h = rw (e, d) h
+
+  -- a rule that the grammar says is broken is told, at this token
+  pub whole_broken : (n : ℕ) (front : List T) (t : T) (rest : List T) → L (Err n) (front ++ t ∷ []) → whole p (front ++ t ∷ rest) ≡ Err (t ∷ rest, Breaks n)
+  whole_broken n front t rest h =
+      let s = reads.broken n (front ++ t ∷ []) h in
+      let same : (front ≡ s.front) × (t ≡ s.last) = last_same front s.front t s.last s.split in
+      let e : p (front ++ t ∷ rest) ≡ Err (t ∷ rest, Breaks n) = stops_at_same n rest front s.front t s.last same.0 same.1 (s.stops rest) in
+      rw e refl
 
 -- a phrase that must begin with a token that passes does
 pub begins : {T A : Type 0} {p : Reader T A} {L : Grammar T A} {P : Language T} {first go : T → Bool} → Reads p L P (Must first) go → (ts : List T) → P ts → next_is first ts ≡ true
@@ -256,42 +326,26 @@ follows {T} {A} {p} (May first) reads before (apart, less) (t ∷ w) rest h ends
 
 -- ---- the same reader, said in another way
 
-starts_same : {T A : Type 0} (p q : Reader T A) (start : Start T) → ((ts : List T) → q ts ≡ p ts) → StartsBy p start → StartsBy q start
-starts_same p q (Must first) same starts = λ ts h. same ts ∙ starts ts h
-starts_same p q (May first) same starts = λ ts h. let (a, e) = starts ts h in (a, same ts ∙ e)
-
 module _ {T A : Type 0} {p : Reader T A} {L : Grammar T A} {P : Language T} {start : Start T} {go : T → Bool} (reads : Reads p L P start go) where
   -- another wording of the grammar and of its plain language
-  pub same_reads : {M : Grammar T A} {Q : Language T} → ((a : A) (ts : List T) → L a ts → M a ts) → ((a : A) (ts : List T) → M a ts → L a ts) → ((ts : List T) → P ts → Q ts) → ((ts : List T) → Q ts → P ts) → Reads p M Q start go
+  pub same_reads : {M : Grammar T A} {Q : Language T} → ((r : Result A ℕ) (ts : List T) → L r ts → M r ts) → ((r : Result A ℕ) (ts : List T) → M r ts → L r ts) → ((ts : List T) → P ts → Q ts) → ((ts : List T) → Q ts → P ts) → Reads p M Q start go
   same_reads {M} {Q} to from to_plain from_plain = record {
-    took = λ ts a rest e. let k = reads.took ts a rest e in record { front = k.front; split = k.split; phrase = to a k.front k.phrase; near = k.near };
+    took = λ ts a rest e. let k = reads.took ts a rest e in record { front = k.front; split = k.split; phrase = to (Ok a) k.front k.phrase; near = k.near };
     stuck = λ ts rest why e.
         let k = reads.stuck ts rest why e in
-        record { front = k.front; split = k.split; viable = viable_as P Q k.front rest why to_plain k.viable; near = k.near };
-    complete = λ a front rest h ends. reads.complete a front rest (from a front h) ends;
+        record { front = k.front; split = k.split; viable = viable_as L M P Q k.front rest why (λ n w h. to (Err n) w h) to_plain k.viable; near = k.near };
+    complete = λ a front rest h ends. reads.complete a front rest (from (Ok a) front h) ends;
+    broken = λ n ts h. let s = reads.broken n ts (from (Err n) ts h) in record { front = s.front; last = s.last; split = s.split; stops = s.stops; goes_on = front_as P Q ts to_plain s.goes_on };
     plain = λ front rest h ends. reads.plain front rest (from_plain front h) ends;
-    is_plain = λ a ts h. to_plain ts (reads.is_plain a ts (from a ts h));
+    is_plain = λ a ts h. to_plain ts (reads.is_plain a ts (from (Ok a) ts h));
     starts = reads.starts;
     some = reads.some;
     example = let (v, h) = reads.example in (v, to_plain v h);
   }
 
-  -- another reader that answers the same
-  pub same_reader : {q : Reader T A} → ((ts : List T) → q ts ≡ p ts) → Reads q L P start go
-  same_reader {q} same = record {
-    took = λ ts a rest e. let k = reads.took ts a rest (sym (same ts) ∙ e) in record { front = k.front; split = k.split; phrase = k.phrase; near = λ other look. same (k.front ++ other) ∙ k.near other look };
-    stuck = λ ts rest why e. let k = reads.stuck ts rest why (sym (same ts) ∙ e) in record { front = k.front; split = k.split; viable = k.viable; near = λ other look. same (k.front ++ other) ∙ k.near other look };
-    complete = λ a front rest h ends. same (front ++ rest) ∙ reads.complete a front rest h ends;
-    plain = λ front rest h ends. rw (same (front ++ rest)) (reads.plain front rest h ends);
-    is_plain = reads.is_plain;
-    starts = starts_same p q start same reads.starts;
-    some = reads.some;
-    example = reads.example;
-  }
-
   -- a grammar whose plain phrases all have a tree
   pub reads_all : ((ts : List T) → P ts → Phrase L ts) → ReadsAll p L start go
-  reads_all trees = same_reads (λ a ts h. h) (λ a ts h. h) trees (λ ts h. reads.is_plain h.0 ts h.1)
+  reads_all trees = same_reads (λ r ts h. h) (λ r ts h. h) trees (λ ts h. reads.is_plain h.0 ts h.1)
 
   -- another account of the tokens with which its phrases begin
   pub starts_with : (other : Start T) → StartsBy p other → Reads p L P other go
@@ -299,6 +353,7 @@ module _ {T A : Type 0} {p : Reader T A} {L : Grammar T A} {P : Language T} {sta
     took = reads.took;
     stuck = reads.stuck;
     complete = reads.complete;
+    broken = reads.broken;
     plain = reads.plain;
     is_plain = reads.is_plain;
     starts = starts;
@@ -312,6 +367,7 @@ module _ {T A : Type 0} {p : Reader T A} {L : Grammar T A} {P : Language T} {sta
     took = reads.took;
     stuck = reads.stuck;
     complete = λ a front rest h ends. reads.complete a front rest h (next_less go more less rest ends);
+    broken = reads.broken;
     plain = λ front rest h ends. reads.plain front rest h (next_less go more less rest ends);
     is_plain = reads.is_plain;
     starts = reads.starts;
@@ -319,38 +375,31 @@ module _ {T A : Type 0} {p : Reader T A} {L : Grammar T A} {P : Language T} {sta
     example = reads.example;
   }
 
--- more tokens with which phrases are taken to begin
-pub must_start : {T A : Type 0} {p : Reader T A} {L : Grammar T A} {P : Language T} {first go : T → Bool} → Reads p L P (Must first) go → (more : T → Bool) → ((t : T) → more t ≡ false → first t ≡ false) → Reads p L P (Must more) go
-must_start {first = first} reads more less = starts_with reads (Must more) (λ ts h. reads.starts ts (next_less first more less ts h))
-
-pub may_start : {T A : Type 0} {p : Reader T A} {L : Grammar T A} {P : Language T} {first go : T → Bool} → Reads p L P (May first) go → (more : T → Bool) → ((t : T) → more t ≡ false → first t ≡ false) → Reads p L P (May more) go
-may_start {first = first} reads more less = starts_with reads (May more) (λ ts h. reads.starts ts (next_less first more less ts h))
-
--- ---- grammars without other rules
+-- ---- where no token breaks a rule
 
 module _ {T A : Type 0} {p : Reader T A} {L : Grammar T A} {start : Start T} {go : T → Bool} (reads : ReadsAll p L start go) where
   -- another wording of the grammar
-  pub same_all : {M : Grammar T A} → ((a : A) (ts : List T) → L a ts → M a ts) → ((a : A) (ts : List T) → M a ts → L a ts) → ReadsAll p M start go
-  same_all to from = same_reads reads to from (λ ts h. (h.0, to h.0 ts h.1)) (λ ts h. (h.0, from h.0 ts h.1))
+  pub same_all : {M : Grammar T A} → ((r : Result A ℕ) (ts : List T) → L r ts → M r ts) → ((r : Result A ℕ) (ts : List T) → M r ts → L r ts) → ReadsAll p M start go
+  same_all to from = same_reads reads to from (λ ts h. (h.0, to (Ok h.0) ts h.1)) (λ ts h. (h.0, from (Ok h.0) ts h.1))
 
-  -- no token breaks a rule
-  never_breaks : (ts rest : List T) (n : ℕ) → p ts ≡ Err (rest, Breaks n) → ⊥
-  never_breaks ts rest n e = by rest (reads.stuck ts rest (Breaks n) e)
-    where
-      by : (rest : List T) → Stuck p (Phrase L) ts rest (Breaks n) → ⊥
-      by [] s = s.viable
-      by (t ∷ rest) s =
-          let (more, (a, h)) = s.viable in
-          let same : (s.front ++ t ∷ []) ++ more ≡ s.front ++ t ∷ more = append_assoc s.front (t ∷ []) more in
-          let read : p (s.front ++ t ∷ more) ≡ Ok (a, []) = rw (same, append-nil (s.front ++ t ∷ more)) at (reads.complete a ((s.front ++ t ∷ []) ++ more) [] h refl) in
-          let both = sym read ∙ s.near (t ∷ more) refl in
-          cc
+  -- since a phrase would go on with it, and that is read
+  pub no_rules : (n : ℕ) (ts : List T) → L (Err n) ts → ⊥
+  no_rules n ts h =
+      let s = reads.broken n ts h in
+      let (more, (a, g)) = s.goes_on in
+      let same : (ts ++ more) ++ [] ≡ s.front ++ s.last ∷ more = append-nil (ts ++ more) ∙ ap (λ (u : List T). u ++ more) s.split ∙ append_assoc s.front (s.last ∷ []) more in
+      let read : p ((ts ++ more) ++ []) ≡ Ok (a, []) = reads.complete a (ts ++ more) [] g refl in
+      let both = sym read ∙ ap p same ∙ s.stops more in
+      cc
 
   pub whole_answers_all : (ts : List T) → AnswersAll L ts (whole p ts)
-  whole_answers_all ts = by (p ts) refl (whole_answers reads ts)
+  whole_answers_all ts = by (whole p ts) (whole_answers reads ts)
     where
-      by : (r : Result (A × List T) (List T × Why)) → p ts ≡ r → Answers L (Phrase L) ts (and_then r ended) → AnswersAll L ts (and_then r ended)
-      by (Err (rest, Unexpected)) e h = (refl, h)
-      by (Err (rest, Breaks n)) e h = absurd (never_breaks ts rest n e)
-      by (Ok (a, [])) e h = h
-      by (Ok (a, t ∷ rest)) e h = (refl, h)
+      broken : (front rest : List T) (n : ℕ) → NextBreaks L n front rest → ⊥
+      broken front [] n h = h
+      broken front (t ∷ rest) n h = no_rules n (front ++ t ∷ []) h
+
+      by : (r : Result A (List T × Why)) → Answers L (Phrase L) ts r → AnswersAll L ts r
+      by (Ok a) h = h
+      by (Err (rest, Unexpected)) h = (refl, h)
+      by (Err (rest, Breaks n)) h = absurd (broken h.front rest n h.reason.1)

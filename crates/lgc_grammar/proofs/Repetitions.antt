@@ -6,9 +6,9 @@
 -- `many_fails` and `many_goes`.
 use Rattle.std.proofs.Common.{◌≡◌, ℕ, zero, suc, ◌<◌, ◌≤◌, Bool, true, false, List, [], ◌∷◌, ◌++◌, length, Result, Ok, Err, refl, sym, ap, subst, ◌∙◌, append_assoc, append-nil, arith, inl, inr, ◌⊎◌, length-append}
 use Rattle.std.specs.Prelude.{◌||◌}
-use Rattle.lgc_grammar.specs.Grammar.{Grammar, Language, Phrase, Why, Unexpected, Breaks, One, Either, Many, Listed, Behind, Separated, Loosely, PlainOne, PlainThen, PlainEither, PlainMany, none, more, PlainSeparated, PlainLoosely}
+use Rattle.lgc_grammar.specs.Grammar.{Grammar, Language, Phrase, IsFront, Why, Unexpected, Breaks, One, Either, Row, Many, Listed, Behind, Separated, Loosely, PlainOne, PlainThen, PlainEither, PlainMany, none, more, PlainSeparated, PlainLoosely}
 use Rattle.lgc_grammar.specs.Reading.{Reader, and_then, next_is, one_at, either_at, many_within, many_at, listed_at, behind_at, separated_at, loosely_at}
-use Rattle.lgc_grammar.proofs.Readers.{Reads, ReadsAll, Took, Stuck, Start, Must, May, Follows, next_or, SameNext, IsReadOrBreaks, never, ok, err, ok_rest, ok_tree, and_then_ok, and_then_err, next_alike, next_stays, next_apart, same_behind, viable_in, begins, either_way, or_right, goes_with, reads_all}
+use Rattle.lgc_grammar.proofs.Readers.{Reads, ReadsAll, Took, Stuck, Start, Must, May, Follows, next_or, SameNext, IsReadOrBreaks, never, ok, err, ok_rest, ok_tree, and_then_ok, and_then_err, next_alike, next_stays, next_apart, same_behind, viable_in, front_in, StopsIn, first_of, stops_here, stops_behind, begins, either_way, or_right, goes_with, reads_all}
 use Rattle.lgc_grammar.proofs.Basic.{map_reads}
 use Rattle.lgc_grammar.proofs.Sequences.{then_reads, then_reads_if, start_then}
 use Rattle.lgc_grammar.proofs.Choices.{either_reads}
@@ -59,7 +59,7 @@ module _ {T A : Type 0} {first : T → Bool} {p : Reader T A} (shrinks : Shrinks
 
 module _ {T A : Type 0} {first : T → Bool} {p : Reader T A} {L : Grammar T A} {P : Language T} {go : T → Bool} (reads : Reads p L P (Must first) go) where
   -- a phrase has a token
-  longer : (a : A) (front rest : List T) → L a front → length rest < length (front ++ rest)
+  longer : (a : A) (front rest : List T) → L (Ok a) front → length rest < length (front ++ rest)
   longer a front rest h = by front (begins reads front (reads.is_plain a front h))
     where
       by : (front : List T) → next_is first front ≡ true → length rest < length (front ++ rest)
@@ -81,7 +81,7 @@ module _ {T A : Type 0} {first : T → Bool} {p : Reader T A} {L : Grammar T A} 
   took_none ts others rest h e = record {
     front = [];
     split = ok_rest e;
-    phrase = subst (λ (x : List A). Many L x []) (ok_tree e) refl;
+    phrase = subst (λ (x : List A). Many L (Ok x) []) (ok_tree e) refl;
     near = λ other look. many_ends first p other (sym (next_alike first [] rest other look) ∙ ap (next_is first) (sym (ok_rest e)) ∙ h) ∙ ap (λ (x : List A). ok {A = List A × List T} (x, other)) (ok_tree e);
   }
 
@@ -107,19 +107,22 @@ module _ {T A : Type 0} {first : T → Bool} {p : Reader T A} {L : Grammar T A} 
       near = λ other look. goes ((k.front ++ m.front) ++ other) a (m.front ++ other) others other (is_next m.front other) (near_one m.front rest m.split other look) (m.near other look);
     }
 
-    stuck_one : (rest : List T) (why : Why) → Stuck (many_at first p) (PlainMany P) r rest why → Stuck (many_at first p) (PlainMany P) ts rest why
+    row_breaks : (n : ℕ) (w : List T) → Many L (Err n) w → Many L (Err n) (k.front ++ w)
+    row_breaks n w (before, x, y, f, g, e) = (a ∷ before, k.front ++ x, y, (k.front, x, k.phrase, f, refl), g, ap (λ (u : List T). k.front ++ u) e ∙ sym (append_assoc k.front x y))
+
+    stuck_one : (rest : List T) (why : Why) → Stuck (many_at first p) (Many L) (PlainMany P) r rest why → Stuck (many_at first p) (Many L) (PlainMany P) ts rest why
     stuck_one rest why m = record {
       front = k.front ++ m.front;
       split = split_one m.front rest m.split;
-      viable = viable_in (PlainMany P) (PlainMany P) k.front m.front rest why (λ w h. ([], rw (append-nil w) (more k.front w (reads.is_plain a k.front k.phrase) h))) m.viable;
+      viable = viable_in (Many L) (Many L) (PlainMany P) (PlainMany P) k.front m.front rest why (λ n w h. row_breaks n w h) (λ w h. ([], rw (append-nil w) (more k.front w (reads.is_plain a k.front k.phrase) h))) m.viable;
       near = λ other look. goes_stuck ((k.front ++ m.front) ++ other) a (m.front ++ other) (other, why) (is_next m.front other) (near_one m.front rest m.split other look) (m.near other look);
     }
 
-  stuck_here : (ts rest : List T) (why : Why) → next_is first ts ≡ true → Stuck p P ts rest why → Stuck (many_at first p) (PlainMany P) ts rest why
+  stuck_here : (ts rest : List T) (why : Why) → next_is first ts ≡ true → Stuck p L P ts rest why → Stuck (many_at first p) (Many L) (PlainMany P) ts rest why
   stuck_here ts rest why h k = record {
     front = k.front;
     split = k.split;
-    viable = viable_in P (PlainMany P) [] k.front rest why (λ v g. ([], more v [] g none)) k.viable;
+    viable = viable_in L (Many L) P (PlainMany P) [] k.front rest why (λ n w h. ([], [], w, refl, h, refl)) (λ v g. ([], more v [] g none)) k.viable;
     near = λ other look. many_fails first p (k.front ++ other) (other, why) (sym (next_alike first k.front rest other look) ∙ ap (next_is first) (sym k.split) ∙ h) (k.near other look);
   }
 
@@ -144,23 +147,23 @@ module _ {T A : Type 0} {first : T → Bool} {p : Reader T A} {L : Grammar T A} 
               let same : s.0.1 ≡ rest = ok_rest s.2 in
               subst (λ (o : List A). Took (many_at first p) (Many L) (t ∷ ts) o rest) tree (subst (λ (o : List T). Took (many_at first p) (Many L) (t ∷ ts) (x.0 ∷ s.0.0) o) same (took_one (t ∷ ts) x.0 x.1 h (reads.took (t ∷ ts) x.0 x.1 f) s.0.0 s.0.1 m))
 
-  stuck_within : (n : ℕ) (ts rest : List T) (why : Why) → length ts ≤ n → many_at first p ts ≡ Err (rest, why) → Stuck (many_at first p) (PlainMany P) ts rest why
+  stuck_within : (n : ℕ) (ts rest : List T) (why : Why) → length ts ≤ n → many_at first p ts ≡ Err (rest, why) → Stuck (many_at first p) (Many L) (PlainMany P) ts rest why
   stuck_within n [] rest why le e = let g = sym (many_ends first p [] refl) ∙ e in absurd cc
   stuck_within zero (t ∷ ts) rest why le e = absurd (omega arith)
   stuck_within (suc n) (t ∷ ts) rest why le e = at (λ r below f. stuck_within n r rest why below f) (either_way (first t))
     where
-      at : ((r : List T) → length r ≤ n → many_at first p r ≡ Err (rest, why) → Stuck (many_at first p) (PlainMany P) r rest why) → (first t ≡ true) ⊎ (first t ≡ false) → Stuck (many_at first p) (PlainMany P) (t ∷ ts) rest why
+      at : ((r : List T) → length r ≤ n → many_at first p r ≡ Err (rest, why) → Stuck (many_at first p) (Many L) (PlainMany P) r rest why) → (first t ≡ true) ⊎ (first t ≡ false) → Stuck (many_at first p) (Many L) (PlainMany P) (t ∷ ts) rest why
       at again (inr h) = let g = sym (many_ends first p (t ∷ ts) h) ∙ e in absurd cc
       at again (inl h) = by (p (t ∷ ts)) refl
         where
-          by : (r : Result (A × List T) (List T × Why)) → p (t ∷ ts) ≡ r → Stuck (many_at first p) (PlainMany P) (t ∷ ts) rest why
+          by : (r : Result (A × List T) (List T × Why)) → p (t ∷ ts) ≡ r → Stuck (many_at first p) (Many L) (PlainMany P) (t ∷ ts) rest why
           by (Err c) f =
               let g = sym (many_fails first p (t ∷ ts) c h f) ∙ e in
               let same : c ≡ (rest, why) = cc in
               stuck_here (t ∷ ts) rest why h (reads.stuck (t ∷ ts) rest why (f ∙ ap (λ (d : List T × Why). err d) same))
           by (Ok x) f = turn (and_then_err (many_at first p x.1) (λ y. Ok (x.0 ∷ y.0, y.1)) (rest, why) (sym (many_goes (reads_shrink reads) (t ∷ ts) x.0 x.1 h f) ∙ e))
             where
-              turn : (many_at first p x.1 ≡ Err (rest, why)) ⊎ ((y : List A × List T) × (many_at first p x.1 ≡ Ok y) × (ok {A = List A × List T} {E = List T × Why} (x.0 ∷ y.0, y.1) ≡ Err (rest, why))) → Stuck (many_at first p) (PlainMany P) (t ∷ ts) rest why
+              turn : (many_at first p x.1 ≡ Err (rest, why)) ⊎ ((y : List A × List T) × (many_at first p x.1 ≡ Ok y) × (ok {A = List A × List T} {E = List T × Why} (x.0 ∷ y.0, y.1) ≡ Err (rest, why))) → Stuck (many_at first p) (Many L) (PlainMany P) (t ∷ ts) rest why
               turn (inl g) =
                   let shrinks : Shrinks first p = reads_shrink reads in
                   let less = shrinks.less (t ∷ ts) x.0 x.1 h f in
@@ -173,11 +176,11 @@ module _ {T A : Type 0} {first : T → Bool} {p : Reader T A} {L : Grammar T A} 
     link w rest none ends = (next_or first go rest ends).1
     link w rest (more v u f g) ends = rw (append_assoc v u rest) (next_apart first go apart (v ++ (u ++ rest)) (next_stays first v (u ++ rest) (begins reads v f)))
 
-    many_is_plain : (all : List A) (ts : List T) → Many L all ts → PlainMany P ts
+    many_is_plain : (all : List A) (ts : List T) → Many L (Ok all) ts → PlainMany P ts
     many_is_plain [] ts h = rw h none
     many_is_plain (a ∷ others) ts (v, w, f, g, split) = rw split (more v w (reads.is_plain a v f) (many_is_plain others w g))
 
-    many_complete : (all : List A) (front rest : List T) → Many L all front → next_is (λ t. first t || go t) rest ≡ false → many_at first p (front ++ rest) ≡ Ok (all, rest)
+    many_complete : (all : List A) (front rest : List T) → Many L (Ok all) front → next_is (λ t. first t || go t) rest ≡ false → many_at first p (front ++ rest) ≡ Ok (all, rest)
     many_complete [] front rest h ends = rw h (many_ends first p rest (next_or first go rest ends).0)
     many_complete (a ∷ others) front rest (v, w, f, g, split) ends =
         let one : p (v ++ (w ++ rest)) ≡ Ok (a, w ++ rest) = reads.complete a v (w ++ rest) f (link w rest (many_is_plain others w g) ends) in
@@ -200,11 +203,30 @@ module _ {T A : Type 0} {first : T → Bool} {p : Reader T A} {L : Grammar T A} 
         by again (Err (r, Unexpected)) e h = absurd h
         by again (Err (r, Breaks n)) e h = rw (many_fails first p (v ++ (w ++ rest)) (r, Breaks n) is e) tt
 
+    many_broken : (n : ℕ) (before : List A) (v w : List T) → Row L before v → L (Err n) w → StopsIn (many_at first p) (PlainMany P) n (v ++ w)
+    many_broken n [] v w row h =
+        let s = reads.broken n w h in
+        let (rest_of, g) = s.goes_on in
+        let is = first_of s first true rest_of (next_stays first (w ++ rest_of) [] (begins reads (w ++ rest_of) g)) in
+        rw row (stops_here s (λ rest. many_fails first p (s.front ++ s.last ∷ rest) (s.last ∷ rest, Breaks n) (is rest) (s.stops rest)) (front_in P (PlainMany P) [] w (λ x i. ([], more x [] i none)) s.goes_on))
+    many_broken n (a ∷ before) v w (x, y, f, g, split) h =
+        let s = many_broken n before y w g h in
+        let (rest_of, i) = s.goes_on in
+        let ends = first_of s go false rest_of (link ((y ++ w) ++ rest_of) [] i refl) in
+        let is : (rest : List T) → next_is first (x ++ (s.front ++ s.last ∷ rest)) ≡ true = λ rest. next_stays first x (s.front ++ s.last ∷ rest) (begins reads x (reads.is_plain a x f)) in
+        let way : IsFront (PlainMany P) (x ++ (y ++ w)) = front_in (PlainMany P) (PlainMany P) x (y ++ w) (λ u j. ([], rw (append-nil u) (more x u (reads.is_plain a x f) j))) s.goes_on in
+        let stops = λ (rest : List T). goes_stuck (x ++ (s.front ++ s.last ∷ rest)) a (s.front ++ s.last ∷ rest) (s.last ∷ rest, Breaks n) (is rest) (reads.complete a x (s.front ++ s.last ∷ rest) f (ends rest)) (s.stops rest) in
+        rw (split, append_assoc x y w) (stops_behind s x stops way)
+
+    broken_in : (n : ℕ) (ts : List T) → Many L (Err n) ts → StopsIn (many_at first p) (PlainMany P) n ts
+    broken_in n ts (before, v, w, row, h, split) = rw split (many_broken n before v w row h)
+
     pub many_reads : Reads (many_at first p) (Many L) (PlainMany P) (May first) (λ t. first t || go t)
     many_reads = record {
       took = λ ts others rest e. took_within (length ts) ts others rest (omega arith) e;
       stuck = λ ts rest why e. stuck_within (length ts) ts rest why (omega arith) e;
       complete = many_complete;
+      broken = broken_in;
       plain = many_plain;
       is_plain = many_is_plain;
       starts = λ ts h. ([], many_ends first p ts h);
@@ -213,12 +235,12 @@ module _ {T A : Type 0} {first : T → Bool} {p : Reader T A} {L : Grammar T A} 
     }
 
 -- plain phrases in a row, where each has a tree
-many_trees : {T A : Type 0} {L : Grammar T A} {P : Language T} → ((ts : List T) → P ts → Phrase L ts) → (ts : List T) → PlainMany P ts → Phrase (Many L) ts
-many_trees trees ts none = ([], refl)
-many_trees trees ts (more v w f g) = let (a, h) = trees v f in let (others, k) = many_trees trees w g in (a ∷ others, (v, w, h, k, refl))
+many_trees : {T A : Type 0} (L : Grammar T A) {P : Language T} → ((ts : List T) → P ts → Phrase L ts) → (ts : List T) → PlainMany P ts → Phrase (Many L) ts
+many_trees L trees ts none = ([], refl)
+many_trees L trees ts (more v w f g) = let (a, h) = trees v f in let (others, k) = many_trees L trees w g in (a ∷ others, (v, w, h, k, refl))
 
 pub many_all : {T A : Type 0} {first : T → Bool} {p : Reader T A} {L : Grammar T A} {go : T → Bool} → ReadsAll p L (Must first) go → ((t : T) → first t ≡ true → go t ≡ false) → ReadsAll (many_at first p) (Many L) (May first) (λ t. first t || go t)
-many_all reads apart = reads_all (many_reads reads apart) (many_trees (λ ts h. h))
+many_all {L = L} reads apart = reads_all (many_reads reads apart) (many_trees L (λ ts h. h))
 
 -- ---- x { y }
 
@@ -230,8 +252,8 @@ module _ {T A : Type 0} {p q : Reader T A} {L M : Grammar T A} {P Q : Language T
   pub listed_reads : Reads p L P start go → Reads q M Q (Must first) go → ((t : T) → first t ≡ true → go t ≡ false) → Reads (listed_at p (many_at first q)) (Listed L M) (PlainThen P (PlainMany Q)) (start_then start (May first)) (λ t. first t || go t)
   listed_reads reads others apart = then_reads_if reads (λ a. map_reads (λ (others : List A). a ∷ others) (many_reads others apart)) (list_ends first go go apart (λ t h. h))
 
-listed_trees : {T A : Type 0} {L M : Grammar T A} {P Q : Language T} → ((ts : List T) → P ts → Phrase L ts) → ((ts : List T) → Q ts → Phrase M ts) → (ts : List T) → PlainThen P (PlainMany Q) ts → Phrase (Listed L M) ts
-listed_trees trees others ts (v, w, f, g, split) = let (a, h) = trees v f in let (rest, k) = many_trees others w g in (a ∷ rest, (a, v, w, h, (rest, refl, k), split))
+listed_trees : {T A : Type 0} (L M : Grammar T A) {P Q : Language T} → ((ts : List T) → P ts → Phrase L ts) → ((ts : List T) → Q ts → Phrase M ts) → (ts : List T) → PlainThen P (PlainMany Q) ts → Phrase (Listed L M) ts
+listed_trees L M trees others ts (v, w, f, g, split) = let (a, h) = trees v f in let (rest, k) = many_trees M others w g in (a ∷ rest, (a, v, w, h, (rest, refl, k), split))
 
 -- ---- x { sep x }
 
@@ -246,7 +268,7 @@ module _ {T A : Type 0} {sep : T → Bool} {p : Reader T A} {L : Grammar T A} {g
   separated_reads separator reads apart = listed_reads reads (behind_reads separator reads) apart
 
   pub separated_all : {first : T → Bool} → ReadsAll (one_at sep) (One sep) (Must sep) never → ReadsAll p L (Must first) go → ((t : T) → sep t ≡ true → go t ≡ false) → ReadsAll (separated_at sep p) (Separated sep L) (Must first) (λ t. sep t || go t)
-  separated_all separator reads apart = reads_all (separated_reads separator reads apart) (listed_trees (λ ts h. h) (behind_trees sep L))
+  separated_all separator reads apart = reads_all (separated_reads separator reads apart) (listed_trees L (Behind sep L) (λ ts h. h) (behind_trees sep L))
 
 -- ---- x { [ sep ] x }
 
@@ -273,4 +295,4 @@ module _ {T A : Type 0} {sep first : T → Bool} {p : Reader T A} {L : Grammar T
   loosely_reads separator reads apart sep_ends first_ends = listed_reads reads (next_reads separator reads apart) (next_ends sep first go sep_ends first_ends)
 
   pub loosely_all : ReadsAll (one_at sep) (One sep) (Must sep) never → ReadsAll p L (Must first) go → ((t : T) → first t ≡ true → sep t ≡ false) → ((t : T) → sep t ≡ true → go t ≡ false) → ((t : T) → first t ≡ true → go t ≡ false) → ReadsAll (loosely_at sep first p) (Loosely sep L) (Must first) (λ t. (sep t || first t) || go t)
-  loosely_all separator reads apart sep_ends first_ends = reads_all (loosely_reads separator reads apart sep_ends first_ends) (listed_trees (λ ts h. h) (next_trees sep L))
+  loosely_all separator reads apart sep_ends first_ends = reads_all (loosely_reads separator reads apart sep_ends first_ends) (listed_trees L (Either (Behind sep L) L) (λ ts h. h) (next_trees sep L))

@@ -106,20 +106,59 @@ loosely_at sep first p = listed_at p (more_loosely_at sep first p)
 abbrev pub between_at : {T A : Type 0} → (T → Bool) → Reader T A → (T → Bool) → Reader T A
 between_at opens p closes = then_at (one_at opens) (λ _. then_at p (λ a. map_at (λ _. a) (one_at closes)))
 
--- ---- rules with numbers
+-- At most n phrases.
+abbrev pub growing_within : {T A : Type 0} → ℕ → (T → Bool) → (A → Reader T A) → A → Reader T A
+growing_within zero first p a ts = Ok (a, ts)
+growing_within (suc n) first p a ts = if next_is first ts then and_then (p a ts) (λ x. growing_within n first p x.0 x.1) else Ok (a, ts)
 
--- A next token that passes the test breaks the rule n.
-abbrev pub check_at : {T A : Type 0} → (T → Bool) → ℕ → Reader T A → Reader T A
-check_at breaks n p ts = if next_is breaks ts then Err (ts, Breaks n) else p ts
+-- { x }, where each x goes on from the tree so far: one more phrase as long as the next token passes the test. Each has a
+-- token, so there are no more than tokens.
+unfoldable pub growing_at : {T A : Type 0} → (T → Bool) → (A → Reader T A) → A → Reader T A
+growing_at first p a ts = growing_within (length ts) first p a ts
 
--- No phrase may begin here any more: a token that would begin one breaks the rule n.
-abbrev pub limit_at : {T A : Type 0} → (T → Bool) → ℕ → Reader T A
-limit_at first n ts = if next_is first ts then Err (ts, Breaks n) else Err (ts, Unexpected)
+-- ---- { x } [ y ], where y begins as each x does
 
--- Where `bad`, what was read breaks the rule n, and this shows at the next token, where q would go on: it breaks the rule
--- where q could begin with it.
+-- What was read: an x, with the tree so far, or the y, with the last tree.
+pub data Turn (A C : Type 0) : Type 0 where
+  onward : A → Turn A C
+  last : C → Turn A C
+
+-- What is read behind the turn.
+abbrev pub behind_turn : {T A C : Type 0} → (A → Reader T C) → Turn A C → Reader T C
+behind_turn p (onward a) ts = p a ts
+behind_turn p (last c) ts = Ok (c, ts)
+
+-- At most n phrases. Where the y isn't there the last tree is `finish` of the tree so far.
+abbrev pub ending_within : {T A C : Type 0} → ℕ → (T → Bool) → (A → Reader T (Turn A C)) → (A → C) → A → Reader T C
+ending_within zero first p finish a ts = Ok (finish a, ts)
+ending_within (suc n) first p finish a ts =
+    if next_is first ts then and_then (p a ts) (λ x. behind_turn (ending_within n first p finish) x.0 x.1)
+    else Ok (finish a, ts)
+
+-- One more phrase as long as the next token passes the test, up to the y. Each has a token, so there are no more than tokens.
+unfoldable pub ending_at : {T A C : Type 0} → (T → Bool) → (A → Reader T (Turn A C)) → (A → C) → A → Reader T C
+ending_at first p finish a ts = ending_within (length ts) first p finish a ts
+
+-- ---- tokens that break rules
+
+-- This token, or the rule that it breaks.
+abbrev pub judged : {T : Type 0} → Option ℕ → T → Reader T T
+judged None t rest = Ok (t, rest)
+judged (Some n) t rest = Err (t ∷ rest, Breaks n)
+
+-- One token that passes the test, where it breaks no rule.
+abbrev pub allowed_at : {T : Type 0} → (T → Bool) → (T → Option ℕ) → Reader T T
+allowed_at test fault [] = Err ([], Unexpected)
+allowed_at test fault (t ∷ rest) = if test t then judged (fault t) t rest else Err (t ∷ rest, Unexpected)
+
+-- A next token that passes the test breaks the rule with its number.
+abbrev pub refused_at : {T A : Type 0} → (T → Bool) → (T → ℕ) → Reader T A
+refused_at test number [] = Err ([], Unexpected)
+refused_at test number (t ∷ rest) = if test t then Err (t ∷ rest, Breaks (number t)) else Err (t ∷ rest, Unexpected)
+
+-- Where what was read is bad, this shows at the next token: it breaks the rule n where q could begin with it.
 abbrev pub barred_at : {T A : Type 0} → Bool → (T → Bool) → ℕ → Reader T A → Reader T A
-barred_at bad first n q ts = if bad then limit_at first n ts else q ts
+barred_at bad first n q ts = if bad then refused_at first (λ _. n) ts else q ts
 
 -- ---- all of the tokens
 
