@@ -8,5 +8,6 @@ pub mod EndingTurns
 pub mod AllowedTokens
 pub mod RefusedTokens
 pub mod Exact
+pub mod BrokenRules
 pub mod Loops
 pub mod Classes

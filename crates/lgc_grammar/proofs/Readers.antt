@@ -7,7 +7,7 @@
 -- its own.
 use Rattle.std.proofs.Common.{◌≡◌, ℕ, Bool, true, false, List, [], ◌∷◌, ◌++◌, Result, Ok, Err, refl, sym, ap, subst, ◌∙◌, append_assoc, append-nil, inl, inr, ◌⊎◌, length, arith, length-append}
 use Rattle.std.specs.Prelude.{◌||◌}
-use Rattle.lgc_grammar.specs.Grammar.{Grammar, Language, Phrase, Why, Unexpected, Breaks, IsFront, HasNoWay, Reason, Answers, AnswersAll, NextBreaks}
+use Rattle.lgc_grammar.specs.Grammar.{Grammar, Language, Phrase, Why, Unexpected, Breaks, IsFront, HasNoWay, Reason, KeepsRules, Answers, AnswersAll, NextBreaks}
 use Rattle.lgc_grammar.specs.Reading.{Reader, and_then, next_is, ended, whole}
 
 -- ---- the definition
@@ -273,21 +273,28 @@ module _ {T A : Type 0} {p : Reader T A} {L : Grammar T A} {P : Language T} {sta
       let same : (k.front ++ t ∷ []) ++ more ≡ k.front ++ t ∷ more = append_assoc k.front (t ∷ []) more in
       stops_all (k.front ++ t ∷ more) b t more (subst P same h) (k.near (t ∷ more) refl)
 
+  -- where no rule is told, none is broken in what was read
+  keeps : (ts front rest : List T) → ts ≡ front ++ rest → ((n : ℕ) (us : List T) → p ts ≡ Err (us, Breaks n) → ⊥) → KeepsRules L front
+  keeps ts front rest split untold n v w parts h =
+      let s = reads.broken n v h in
+      let same : ts ≡ s.front ++ s.last ∷ (w ++ rest) = split ∙ ap (λ (u : List T). u ++ rest) parts ∙ ap (λ (u : List T). (u ++ w) ++ rest) s.split ∙ simp append_assoc in
+      untold n (s.last ∷ (w ++ rest)) (ap p same ∙ s.stops (w ++ rest))
+
   -- reading all of the tokens answers what the grammar asks for
   pub whole_answers : (ts : List T) → Answers L P ts (whole p ts)
   whole_answers ts = by (p ts) refl
     where
-      reason : (rest : List T) (why : Why) (s : Stuck p L P ts rest why) → Reason L P why s.front rest
-      reason rest Unexpected s = (s.viable, no_way_stuck ts rest s)
-      reason [] (Breaks n) s = absurd s.viable
-      reason (t ∷ rest) (Breaks n) s = let b = reads.broken n (s.front ++ t ∷ []) s.viable in (b.goes_on, s.viable)
+      reason : (rest : List T) (why : Why) (s : Stuck p L P ts rest why) → p ts ≡ Err (rest, why) → Reason L P why s.front rest
+      reason rest Unexpected s e = (s.viable, no_way_stuck ts rest s, keeps ts s.front rest s.split (λ n us f. let why = err_why (sym e ∙ f) in cc))
+      reason [] (Breaks n) s e = absurd s.viable
+      reason (t ∷ rest) (Breaks n) s e = let b = reads.broken n (s.front ++ t ∷ []) s.viable in (b.goes_on, s.viable)
 
       by : (r : Result (A × List T) (List T × Why)) → p ts ≡ r → Answers L P ts (and_then r ended)
-      by (Err (rest, why)) e = let s = reads.stuck ts rest why e in record { front = s.front; split = s.split; reason = reason rest why s }
+      by (Err (rest, why)) e = let s = reads.stuck ts rest why e in record { front = s.front; split = s.split; reason = reason rest why s e }
       by (Ok (a, [])) e = let k = reads.took ts a [] e in rw (k.split, append-nil k.front) k.phrase
       by (Ok (a, t ∷ rest)) e =
           let k = reads.took ts a (t ∷ rest) e in
-          record { front = k.front; split = k.split; reason = (([], rw (append-nil k.front) (reads.is_plain a k.front k.phrase)), no_way_took ts a t rest k) }
+          record { front = k.front; split = k.split; reason = (([], rw (append-nil k.front) (reads.is_plain a k.front k.phrase)), no_way_took ts a t rest k, keeps ts k.front (t ∷ rest) k.split (λ n us f. let both = sym e ∙ f in cc)) }
 
   stops_at_same : (n : ℕ) (rest f g : List T) (t u : T) → f ≡ g → t ≡ u → p (g ++ u ∷ rest) ≡ Err (u ∷ rest, Breaks n) → p (f ++ t ∷ rest) ≡ Err (t ∷ rest, Breaks n)
   stops_at_same n rest f g t u e d h = rw (e, d) h

@@ -46,10 +46,15 @@ pub data Why : Type 0 where
   Unexpected : Why
   Breaks : ℕ → Why
 
+-- None of these tokens breaks a rule.
+abbrev pub KeepsRules : {T A : Type 0} → Grammar T A → Language T
+KeepsRules {T} L front = (n : ℕ) (v w : List T) → front ≡ v ++ w → L (Err n) v → ⊥
+
 -- What each of the two says of the tokens before and the tokens after: some phrase of the plain language begins with those
--- before, and none goes on with the next token; or one goes on with it, and by the grammar it breaks the rule n.
+-- before, which break no rule, and none goes on with the next token; or one goes on with it, and by the grammar it breaks the
+-- rule n.
 abbrev pub Reason : {T A : Type 0} → Grammar T A → Language T → Why → List T → Language T
-Reason L P Unexpected front rest = IsFront P front × HasNoWay P front rest
+Reason L P Unexpected front rest = IsFront P front × HasNoWay P front rest × KeepsRules L front
 Reason L P (Breaks n) front rest = GoesOn P front rest × NextBreaks L n front rest
 
 -- Reading the tokens `ts` stops before `rest` for this reason. Where `rest` is empty the end comes too early.
