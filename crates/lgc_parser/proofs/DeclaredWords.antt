@@ -6,9 +6,10 @@ use Rattle.lgc_parser.specs.declared.tree.Word.{Word}
 use Rattle.lgc_parser.specs.declared.tree.Statement.{Statement}
 use Rattle.lgc_parser.specs.declared.tree.Statement.TheVariants as statement
 use Rattle.lgc_parser.specs.Spelled.{Spelled, word_of, place_of}
-use Rattle.lgc_parser.specs.Classes.{is_name, is_value}
+use Rattle.lgc_parser.specs.declared.class.Class.TheVariants.{LogicWord, ValuesWord, DesignatedWord, OrderingWord, OperatorWord, QuantifierWord, Text, OpenRound, CloseRound, Comma, Slash}
+use Rattle.lgc_parser.specs.Classes.{is, is_name, is_value, is_logic_name}
 use Rattle.lgc_parser.specs.TreeWords.{IsWordWhere, StatementDeclares}
-use Rattle.lgc_parser.specs.SpecGrammar.{Name, Value, Logic, TruthValues, Designated, Ordering, Operator, Quantifier, OneStatement, Spec}
+use Rattle.lgc_parser.specs.SpecGrammar.{Name, Value, Arity, Set, BodyOfOp, BodyOfQuant, Logic, TruthValues, Designated, Ordering, Operator, Quantifier, OneStatement, Spec}
 use Rattle.lgc_parser.proofs.Keeps.{Keeps, nothing_keeps, either_keeps, then_keeps, behind_keeps}
 use Rattle.lgc_parser.proofs.TreeWords.{word_keeps, set_keeps, sentences_keep, IsTokenOf}
 
@@ -17,44 +18,44 @@ module _ (F : Spelled → Type 0) (V N : Word → Type 0) (value_keeps : Keeps F
   R = StatementDeclares V N
 
   logic_declares : Keeps F Logic R
-  logic_declares = behind_keeps F R (λ t. behind_keeps F R (λ w. nothing_keeps F R (statement.Logic (place_of t) w) tt))
+  logic_declares = behind_keeps F R (One (is LogicWord)) (λ t. behind_keeps F R (Mapped word_of (One is_logic_name)) (λ w. nothing_keeps F R (statement.Logic (place_of t) w) tt))
 
   truth_values_declare : Keeps F TruthValues R
-  truth_values_declare = behind_keeps F R (λ t. then_keeps F (λ x. All V x.1) R (set_keeps F V value_keeps) (λ x r. nothing_keeps F R (statement.Values (place_of t) x.1) r))
+  truth_values_declare = behind_keeps F R (One (is ValuesWord)) (λ t. then_keeps F (λ x. All V x.1) R (set_keeps F V value_keeps) (λ x r. nothing_keeps F R (statement.Values (place_of t) x.1) r))
 
   designated_declare : Keeps F Designated R
-  designated_declare = behind_keeps F R (λ t. behind_keeps F R (λ x. nothing_keeps F R (statement.Designated (place_of t) x.1) tt))
+  designated_declare = behind_keeps F R (One (is DesignatedWord)) (λ t. behind_keeps F R Set (λ x. nothing_keeps F R (statement.Designated (place_of t) x.1) tt))
 
   ordering_declares : Keeps F Ordering R
   ordering_declares =
-      behind_keeps F R (λ _.
-      behind_keeps F R (λ _.
-      behind_keeps F R (λ name.
-      behind_keeps F R (λ _.
-      behind_keeps F R (λ text.
-      behind_keeps F R (λ _.
+      behind_keeps F R (One (is OrderingWord)) (λ _.
+      behind_keeps F R (One (is OpenRound)) (λ _.
+      behind_keeps F R Name (λ name.
+      behind_keeps F R (One (is Comma)) (λ _.
+      behind_keeps F R (Mapped word_of (One (is Text))) (λ text.
+      behind_keeps F R (One (is CloseRound)) (λ _.
       nothing_keeps F R (statement.Ordering name text) tt))))))
 
   operator_declares : Keeps F Operator R
   operator_declares =
-      behind_keeps F R (λ _.
-      behind_keeps F R (λ _.
+      behind_keeps F R (One (is OperatorWord)) (λ _.
+      behind_keeps F R (One (is OpenRound)) (λ _.
       then_keeps F N R name_keeps (λ name h.
-      behind_keeps F R (λ _.
-      behind_keeps F R (λ arity.
-      behind_keeps F R (λ _.
-      behind_keeps F R (λ body.
-      behind_keeps F R (λ _.
+      behind_keeps F R (One (is Slash)) (λ _.
+      behind_keeps F R Arity (λ arity.
+      behind_keeps F R (One (is Comma)) (λ _.
+      behind_keeps F R BodyOfOp (λ body.
+      behind_keeps F R (One (is CloseRound)) (λ _.
       nothing_keeps F R (statement.Operator name arity body) h))))))))
 
   quantifier_declares : Keeps F Quantifier R
   quantifier_declares =
-      behind_keeps F R (λ _.
-      behind_keeps F R (λ _.
+      behind_keeps F R (One (is QuantifierWord)) (λ _.
+      behind_keeps F R (One (is OpenRound)) (λ _.
       then_keeps F N R name_keeps (λ name h.
-      behind_keeps F R (λ _.
-      behind_keeps F R (λ body.
-      behind_keeps F R (λ _.
+      behind_keeps F R (One (is Comma)) (λ _.
+      behind_keeps F R BodyOfQuant (λ body.
+      behind_keeps F R (One (is CloseRound)) (λ _.
       nothing_keeps F R (statement.Quantifier name body) h))))))
 
   statement_declares : Keeps F OneStatement R

@@ -43,7 +43,7 @@ order_reads = optional_all [] chains_read
 pub order_answers : (ts : List Spelled) → AnswersAll Order ts (whole order_at ts)
 order_answers = whole_answers_all order_reads
 
-pub order_complete : (chains : List (List (List Word))) (ts : List Spelled) → Order chains ts → whole order_at ts ≡ Ok chains
+pub order_complete : (chains : List (List (List Word))) (ts : List Spelled) → Order (Ok chains) ts → whole order_at ts ≡ Ok chains
 order_complete = whole_complete order_reads
 
 -- reading one leaves no more tokens than there were

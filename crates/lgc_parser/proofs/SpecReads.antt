@@ -256,7 +256,7 @@ spec_reads = many_all sentence_reads (λ t h. refl)
 pub spec_answers : (ts : List Spelled) → AnswersAll Spec ts (whole spec_at ts)
 spec_answers = whole_answers_all spec_reads
 
-pub spec_complete : (statements : List Statement) (ts : List Spelled) → Spec statements ts → whole spec_at ts ≡ Ok statements
+pub spec_complete : (statements : List Statement) (ts : List Spelled) → Spec (Ok statements) ts → whole spec_at ts ≡ Ok statements
 spec_complete = whole_complete spec_reads
 
 -- reading one leaves no more tokens than there were

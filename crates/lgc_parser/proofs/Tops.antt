@@ -19,6 +19,6 @@ module _ {X A : Type 0} (end : ℕ) (view : X → A) (read : Result A (List Spel
   is_tree (Err (fault.Unexpected offset)) a e (rest, is, at_rest) = let same = sym is ∙ e in absurd cc
 
 -- what holds of each tree of the grammar holds of the tree that is answered
-pub tree_has : {X A : Type 0} (end : ℕ) (view : X → A) (L : Grammar Spelled A) (ts : List Spelled) (R : A → Type 0) (result : Result X SyntaxFault) → ((a : A) → L a ts → R a) → Says (AnswersAll L ts) end view result → IfOk result (λ x. R (view x))
+pub tree_has : {X A : Type 0} (end : ℕ) (view : X → A) (L : Grammar Spelled A) (ts : List Spelled) (R : A → Type 0) (result : Result X SyntaxFault) → ((a : A) → L (Ok a) ts → R a) → Says (AnswersAll L ts) end view result → IfOk result (λ x. R (view x))
 tree_has end view L ts R (Ok x) has h = has (view x) h
 tree_has end view L ts R (Err e) has h = tt

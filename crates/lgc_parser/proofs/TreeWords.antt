@@ -11,9 +11,9 @@ use Rattle.lgc_parser.specs.declared.tree.OpBody.TheVariants as op
 use Rattle.lgc_parser.specs.declared.tree.QuantBody.TheVariants as quant
 use Rattle.lgc_parser.specs.declared.tree.Statement.{Statement}
 use Rattle.lgc_parser.specs.declared.tree.Statement.TheVariants as statement
-use Rattle.lgc_parser.specs.declared.class.Class.TheVariants.{InfWord, Number, Text, Less, OpenRound, CloseRound, OpenBrace, CloseBrace, OpenSquare, CloseSquare, Comma}
+use Rattle.lgc_parser.specs.declared.class.Class.TheVariants.{LogicWord, ValuesWord, DesignatedWord, OrderingWord, OperatorWord, QuantifierWord, MappingWord, TableWord, InducedWord, InfWord, Number, Text, Less, OpenRound, CloseRound, OpenBrace, CloseBrace, OpenSquare, CloseSquare, Comma, Dot, Colon, Slash}
 use Rattle.lgc_parser.specs.Spelled.{Spelled, spelled, spelled_all, token_word, word_of, place_of}
-use Rattle.lgc_parser.specs.Classes.{is, is_name, is_value, is_order_value, is_logic_name}
+use Rattle.lgc_parser.specs.Classes.{is, is_name, is_value, is_order_value, is_logic_name, is_bound}
 use Rattle.lgc_parser.specs.TreeWords.{IsWordOf, RowHas, OpBodyHas, QuantBodyHas, StatementHas}
 use Rattle.lgc_parser.specs.OrderGrammar.{Node, Order}
 use Rattle.lgc_parser.specs.SpecGrammar.{Value, Values, Enclosed, Bracketed, Set, Cells, Several, Arguments, OpRow, QuantRow, Rows, OpMapping, OpTable, OpBound, BodyOfOp, QuantMapping, Sized, QuantInduced, QuantBound, BodyOfQuant, Logic, TruthValues, Designated, Ordering, Operator, Quantifier, OneStatement, Spec}
@@ -26,9 +26,9 @@ module _ (F : Spelled → Type 0) where
 
   enclosed_keeps : {A : Type 0} (R : A → Type 0) {L : Grammar Spelled A} (opens closes : Spelled → Bool) → Keeps F L R → Keeps F (Enclosed opens L closes) (λ x. R x.1)
   enclosed_keeps R opens closes keeps =
-      behind_keeps F (λ x. R x.1) (λ first.
+      behind_keeps F (λ x. R x.1) (One opens) (λ first.
       then_keeps F R (λ x. R x.1) keeps (λ tree r.
-      behind_keeps F (λ x. R x.1) (λ last.
+      behind_keeps F (λ x. R x.1) (One closes) (λ last.
       nothing_keeps F (λ x. R x.1) (place_of first, tree, place_of last) r)))
 
   bracketed_keeps : {A : Type 0} (R : A → Type 0) {L : Grammar Spelled A} → Keeps F L R → Keeps F (Bracketed L) (λ x. R x.1)
@@ -41,7 +41,7 @@ module _ (F : Spelled → Type 0) where
   set_keeps P keeps = bracketed_keeps (All P) (values_keep P keeps)
 
   pub sentences_keep : (R : Statement → Type 0) → Keeps F OneStatement R → Keeps F Spec (All R)
-  sentences_keep R keeps = many_keeps F R (then_keeps F R R keeps (λ tree r. behind_keeps F R (λ _. nothing_keeps F R tree r)))
+  sentences_keep R keeps = many_keeps F R (then_keeps F R R keeps (λ tree r. behind_keeps F R (One (is Dot)) (λ _. nothing_keeps F R tree r)))
 
 module _ (F : Spelled → Type 0) (P : Word → Type 0) (says : (t : Spelled) → F t → P (word_of t)) where
   word : (test : Spelled → Bool) → Keeps F (Mapped word_of (One test)) P
@@ -65,9 +65,9 @@ module _ (F : Spelled → Type 0) (P : Word → Type 0) (says : (t : Spelled) �
 
   several_keeps : Keeps F Several (λ x. All P x.1)
   several_keeps =
-      behind_keeps F (λ x. All P x.1) (λ first.
+      behind_keeps F (λ x. All P x.1) (One (is OpenRound)) (λ first.
       then_keeps F (All P) (λ x. All P x.1) (values_keep F P (word is_value)) (λ arguments r.
-      behind_keeps F (λ x. All P x.1) (λ _.
+      behind_keeps F (λ x. All P x.1) (One (is CloseRound)) (λ _.
       nothing_keeps F (λ x. All P x.1) (place_of first, arguments) r)))
 
   arguments_keep : Keeps F Arguments (λ x. All P x.1)
@@ -79,14 +79,14 @@ module _ (F : Spelled → Type 0) (P : Word → Type 0) (says : (t : Spelled) �
   op_row_keeps : Keeps F OpRow (RowHas P)
   op_row_keeps =
       then_keeps F (λ x. All P x.1) (RowHas P) arguments_keep (λ x r.
-      behind_keeps F (RowHas P) (λ _.
+      behind_keeps F (RowHas P) (One (is Colon)) (λ _.
       then_keeps F P (RowHas P) (word is_value) (λ value h.
       nothing_keeps F (RowHas P) (row_of x.0 x.1 value) (record { arguments = r; value = h }))))
 
   quant_row_keeps : Keeps F QuantRow (RowHas P)
   quant_row_keeps =
       then_keeps F (λ x. All P x.1) (RowHas P) (set_keeps F P (word is_value)) (λ x r.
-      behind_keeps F (RowHas P) (λ _.
+      behind_keeps F (RowHas P) (One (is Colon)) (λ _.
       then_keeps F P (RowHas P) (word is_value) (λ value h.
       nothing_keeps F (RowHas P) (row_of x.0 x.1 value) (record { arguments = r; value = h }))))
 
@@ -97,68 +97,68 @@ module _ (F : Spelled → Type 0) (P : Word → Type 0) (says : (t : Spelled) �
   op_body_keeps = either_keeps F (OpBodyHas P) mapping (either_keeps F (OpBodyHas P) table bound)
     where
       mapping : Keeps F OpMapping (OpBodyHas P)
-      mapping = behind_keeps F (OpBodyHas P) (λ _. then_keeps F (λ x. All (RowHas P) x.1) (OpBodyHas P) (rows_keep op_row_keeps) (λ x r. nothing_keeps F (OpBodyHas P) (op.Mapping x.1 x.2) r))
+      mapping = behind_keeps F (OpBodyHas P) (One (is MappingWord)) (λ _. then_keeps F (λ x. All (RowHas P) x.1) (OpBodyHas P) (rows_keep op_row_keeps) (λ x r. nothing_keeps F (OpBodyHas P) (op.Mapping x.1 x.2) r))
 
       table : Keeps F OpTable (OpBodyHas P)
-      table = behind_keeps F (OpBodyHas P) (λ t. then_keeps F (λ x. All P x.1) (OpBodyHas P) cells_keep (λ x r. nothing_keeps F (OpBodyHas P) (op.Table (place_of t) x.1) r))
+      table = behind_keeps F (OpBodyHas P) (One (is TableWord)) (λ t. then_keeps F (λ x. All P x.1) (OpBodyHas P) cells_keep (λ x r. nothing_keeps F (OpBodyHas P) (op.Table (place_of t) x.1) r))
 
       bound : Keeps F OpBound (OpBodyHas P)
-      bound = behind_keeps F (OpBodyHas P) (λ t. behind_keeps F (OpBodyHas P) (λ _. then_keeps F P (OpBodyHas P) (word is_name) (λ w h. behind_keeps F (OpBodyHas P) (λ _. nothing_keeps F (OpBodyHas P) (op.Bound (place_of t) (is InfWord t) w) h))))
+      bound = behind_keeps F (OpBodyHas P) (One is_bound) (λ t. behind_keeps F (OpBodyHas P) (One (is OpenRound)) (λ _. then_keeps F P (OpBodyHas P) (word is_name) (λ w h. behind_keeps F (OpBodyHas P) (One (is CloseRound)) (λ _. nothing_keeps F (OpBodyHas P) (op.Bound (place_of t) (is InfWord t) w) h))))
 
   quant_body_keeps : Keeps F BodyOfQuant (QuantBodyHas P)
   quant_body_keeps = either_keeps F (QuantBodyHas P) mapping (either_keeps F (QuantBodyHas P) induced bound)
     where
       mapping : Keeps F QuantMapping (QuantBodyHas P)
-      mapping = behind_keeps F (QuantBodyHas P) (λ _. then_keeps F (λ x. All (RowHas P) x.1) (QuantBodyHas P) (rows_keep quant_row_keeps) (λ x r. nothing_keeps F (QuantBodyHas P) (quant.Mapping x.1 x.2) r))
+      mapping = behind_keeps F (QuantBodyHas P) (One (is MappingWord)) (λ _. then_keeps F (λ x. All (RowHas P) x.1) (QuantBodyHas P) (rows_keep quant_row_keeps) (λ x r. nothing_keeps F (QuantBodyHas P) (quant.Mapping x.1 x.2) r))
 
       sized : Keeps F Sized (QuantBodyHas P)
-      sized = then_keeps F P (QuantBodyHas P) (word is_name) (λ w h. behind_keeps F (QuantBodyHas P) (λ _. then_keeps F P (QuantBodyHas P) (word (is Number)) (λ n g. nothing_keeps F (QuantBodyHas P) (quant.Induced w n) (h, g))))
+      sized = then_keeps F P (QuantBodyHas P) (word is_name) (λ w h. behind_keeps F (QuantBodyHas P) (One (is Slash)) (λ _. then_keeps F P (QuantBodyHas P) (word (is Number)) (λ n g. nothing_keeps F (QuantBodyHas P) (quant.Induced w n) (h, g))))
 
       induced : Keeps F QuantInduced (QuantBodyHas P)
-      induced = behind_keeps F (QuantBodyHas P) (λ _. then_keeps F (QuantBodyHas P) (QuantBodyHas P) (either_keeps F (QuantBodyHas P) (between_keeps F (QuantBodyHas P) (is OpenRound) (is CloseRound) sized) sized) (λ body h. nothing_keeps F (QuantBodyHas P) body h))
+      induced = behind_keeps F (QuantBodyHas P) (One (is InducedWord)) (λ _. then_keeps F (QuantBodyHas P) (QuantBodyHas P) (either_keeps F (QuantBodyHas P) (between_keeps F (QuantBodyHas P) (is OpenRound) (is CloseRound) sized) sized) (λ body h. nothing_keeps F (QuantBodyHas P) body h))
 
       bound : Keeps F QuantBound (QuantBodyHas P)
-      bound = behind_keeps F (QuantBodyHas P) (λ t. behind_keeps F (QuantBodyHas P) (λ _. then_keeps F P (QuantBodyHas P) (word is_name) (λ w h. behind_keeps F (QuantBodyHas P) (λ _. nothing_keeps F (QuantBodyHas P) (quant.Bound (place_of t) (is InfWord t) w) h))))
+      bound = behind_keeps F (QuantBodyHas P) (One is_bound) (λ t. behind_keeps F (QuantBodyHas P) (One (is OpenRound)) (λ _. then_keeps F P (QuantBodyHas P) (word is_name) (λ w h. behind_keeps F (QuantBodyHas P) (One (is CloseRound)) (λ _. nothing_keeps F (QuantBodyHas P) (quant.Bound (place_of t) (is InfWord t) w) h))))
 
   logic_keeps : Keeps F Logic (StatementHas P)
-  logic_keeps = behind_keeps F (StatementHas P) (λ t. then_keeps F P (StatementHas P) (word is_logic_name) (λ w h. nothing_keeps F (StatementHas P) (statement.Logic (place_of t) w) h))
+  logic_keeps = behind_keeps F (StatementHas P) (One (is LogicWord)) (λ t. then_keeps F P (StatementHas P) (word is_logic_name) (λ w h. nothing_keeps F (StatementHas P) (statement.Logic (place_of t) w) h))
 
   truth_values_keep : Keeps F TruthValues (StatementHas P)
-  truth_values_keep = behind_keeps F (StatementHas P) (λ t. then_keeps F (λ x. All P x.1) (StatementHas P) (set_keeps F P (word is_value)) (λ x r. nothing_keeps F (StatementHas P) (statement.Values (place_of t) x.1) r))
+  truth_values_keep = behind_keeps F (StatementHas P) (One (is ValuesWord)) (λ t. then_keeps F (λ x. All P x.1) (StatementHas P) (set_keeps F P (word is_value)) (λ x r. nothing_keeps F (StatementHas P) (statement.Values (place_of t) x.1) r))
 
   designated_keeps : Keeps F Designated (StatementHas P)
-  designated_keeps = behind_keeps F (StatementHas P) (λ t. then_keeps F (λ x. All P x.1) (StatementHas P) (set_keeps F P (word is_value)) (λ x r. nothing_keeps F (StatementHas P) (statement.Designated (place_of t) x.1) r))
+  designated_keeps = behind_keeps F (StatementHas P) (One (is DesignatedWord)) (λ t. then_keeps F (λ x. All P x.1) (StatementHas P) (set_keeps F P (word is_value)) (λ x r. nothing_keeps F (StatementHas P) (statement.Designated (place_of t) x.1) r))
 
   ordering_keeps : Keeps F Ordering (StatementHas P)
   ordering_keeps =
-      behind_keeps F (StatementHas P) (λ _.
-      behind_keeps F (StatementHas P) (λ _.
+      behind_keeps F (StatementHas P) (One (is OrderingWord)) (λ _.
+      behind_keeps F (StatementHas P) (One (is OpenRound)) (λ _.
       then_keeps F P (StatementHas P) (word is_name) (λ name h.
-      behind_keeps F (StatementHas P) (λ _.
+      behind_keeps F (StatementHas P) (One (is Comma)) (λ _.
       then_keeps F P (StatementHas P) (word (is Text)) (λ text g.
-      behind_keeps F (StatementHas P) (λ _.
+      behind_keeps F (StatementHas P) (One (is CloseRound)) (λ _.
       nothing_keeps F (StatementHas P) (statement.Ordering name text) (h, g)))))))
 
   operator_keeps : Keeps F Operator (StatementHas P)
   operator_keeps =
-      behind_keeps F (StatementHas P) (λ _.
-      behind_keeps F (StatementHas P) (λ _.
+      behind_keeps F (StatementHas P) (One (is OperatorWord)) (λ _.
+      behind_keeps F (StatementHas P) (One (is OpenRound)) (λ _.
       then_keeps F P (StatementHas P) (word is_name) (λ name h.
-      behind_keeps F (StatementHas P) (λ _.
+      behind_keeps F (StatementHas P) (One (is Slash)) (λ _.
       then_keeps F P (StatementHas P) (word (is Number)) (λ arity g.
-      behind_keeps F (StatementHas P) (λ _.
+      behind_keeps F (StatementHas P) (One (is Comma)) (λ _.
       then_keeps F (OpBodyHas P) (StatementHas P) op_body_keeps (λ body k.
-      behind_keeps F (StatementHas P) (λ _.
+      behind_keeps F (StatementHas P) (One (is CloseRound)) (λ _.
       nothing_keeps F (StatementHas P) (statement.Operator name arity body) (h, g, k)))))))))
 
   quantifier_keeps : Keeps F Quantifier (StatementHas P)
   quantifier_keeps =
-      behind_keeps F (StatementHas P) (λ _.
-      behind_keeps F (StatementHas P) (λ _.
+      behind_keeps F (StatementHas P) (One (is QuantifierWord)) (λ _.
+      behind_keeps F (StatementHas P) (One (is OpenRound)) (λ _.
       then_keeps F P (StatementHas P) (word is_name) (λ name h.
-      behind_keeps F (StatementHas P) (λ _.
+      behind_keeps F (StatementHas P) (One (is Comma)) (λ _.
       then_keeps F (QuantBodyHas P) (StatementHas P) quant_body_keeps (λ body k.
-      behind_keeps F (StatementHas P) (λ _.
+      behind_keeps F (StatementHas P) (One (is CloseRound)) (λ _.
       nothing_keeps F (StatementHas P) (statement.Quantifier name body) (h, k)))))))
 
   statement_keeps : Keeps F OneStatement (StatementHas P)

@@ -157,7 +157,7 @@ pub fn parse_order(
     // The tree is the grammar's, and a fault is at the first token with which no continuation is in the grammar.
     ensures answer { Says (AnswersAll Order (spelled_all bytes.now tokens.now)) (length bytes.now) (λ x. x) result }
     // What is in the grammar is read, with this one tree.
-    ensures complete { (chains : List (List (List Word))) → Order chains (spelled_all bytes.now tokens.now) → IsTree (λ x. x) result chains }
+    ensures complete { (chains : List (List (List Word))) → Order (Ok chains) (spelled_all bytes.now tokens.now) → IsTree (λ x. x) result chains }
     // Each word in it is one of the tokens, and its content lies in the bytes.
     ensures words { IfOk result (λ chains. All (All (All (IsWordOf bytes.now tokens.now))) chains) }
     // The same as one function of the tokens.

@@ -56,7 +56,7 @@ pub fn parse_spec(alloc: Global, bytes: &[u8], tokens: &[Token]) -> Result<SpecT
     // The tree is the grammar's, and a fault is at the first token with which no continuation is in the grammar.
     ensures answer { Says (AnswersAll Spec (spelled_all bytes.now tokens.now)) (length bytes.now) (λ t. t.statements) result }
     // What is in the grammar is read, with this one tree.
-    ensures complete { (statements : List Statement) → Spec statements (spelled_all bytes.now tokens.now) → IsTree (λ t. t.statements) result statements }
+    ensures complete { (statements : List Statement) → Spec (Ok statements) (spelled_all bytes.now tokens.now) → IsTree (λ t. t.statements) result statements }
     // Each word in it is one of the tokens, and its content lies in the bytes.
     ensures words { IfOk result (λ t. All (StatementHas (IsWordOf bytes.now tokens.now)) t.statements) }
     // A truth value is the word of a value token, and the name of an operator or a quantifier that of a name token.

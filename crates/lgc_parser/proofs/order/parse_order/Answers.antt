@@ -22,4 +22,4 @@ pub returns-clause-words : goal.returns-clause-words
 returns-clause-words c =
     let ts = spelled_all c.args.bytes.now c.args.tokens.now in
     let have = tokens_have c.args.bytes.now c.args.tokens.now [] c.args.tokens.now refl (tokens_all_in _ _ c.requires.tokens) in
-    tree_has _ (λ x. x) Order ts (All (All (All (IsWordOf c.args.bytes.now c.args.tokens.now)))) _ (λ tree h. order_keeps (IsTokenOf c.args.bytes.now c.args.tokens.now) (IsWordOf c.args.bytes.now c.args.tokens.now) (λ t k. k.0) tree ts h have) (says_too _ (λ x. x) _ (AnswersAll Order ts) _ (order_answers ts) c.whole_order.ensures)
+    tree_has _ (λ x. x) Order ts (All (All (All (IsWordOf c.args.bytes.now c.args.tokens.now)))) _ (λ tree h. (order_keeps (IsTokenOf c.args.bytes.now c.args.tokens.now) (IsWordOf c.args.bytes.now c.args.tokens.now) (λ t k. k.0)).keeps tree ts h have) (says_too _ (λ x. x) _ (AnswersAll Order ts) _ (order_answers ts) c.whole_order.ensures)

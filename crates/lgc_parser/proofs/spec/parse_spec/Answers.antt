@@ -24,7 +24,7 @@ pub returns-clause-words : goal.returns-clause-words
 returns-clause-words c =
     let ts = spelled_all c.args.bytes.now c.args.tokens.now in
     let have = tokens_have c.args.bytes.now c.args.tokens.now [] c.args.tokens.now refl (tokens_all_in _ _ c.requires.tokens) in
-    tree_has _ (λ t. t.statements) Spec ts (All (StatementHas (IsWordOf c.args.bytes.now c.args.tokens.now))) _ (λ tree h. spec_keeps (IsTokenOf c.args.bytes.now c.args.tokens.now) (IsWordOf c.args.bytes.now c.args.tokens.now) (λ t k. k.0) tree ts h have) (says_too _ (λ t. t.statements) _ (AnswersAll Spec ts) _ (spec_answers ts) c.whole_spec.ensures)
+    tree_has _ (λ t. t.statements) Spec ts (All (StatementHas (IsWordOf c.args.bytes.now c.args.tokens.now))) _ (λ tree h. (spec_keeps (IsTokenOf c.args.bytes.now c.args.tokens.now) (IsWordOf c.args.bytes.now c.args.tokens.now) (λ t k. k.0)).keeps tree ts h have) (says_too _ (λ t. t.statements) _ (AnswersAll Spec ts) _ (spec_answers ts) c.whole_spec.ensures)
 
 pub returns-clause-declared : goal.returns-clause-declared
 returns-clause-declared c =
@@ -32,4 +32,4 @@ returns-clause-declared c =
     let tokens = c.args.tokens.now in
     let ts = spelled_all bytes tokens in
     let have = tokens_have bytes tokens [] tokens refl (tokens_all_in _ _ c.requires.tokens) in
-    tree_has _ (λ t. t.statements) Spec ts (All (StatementDeclares (IsWordWhere bytes tokens is_value) (IsWordWhere bytes tokens is_name))) _ (λ tree h. spec_declares bytes tokens tree ts h have) (says_too _ (λ t. t.statements) _ (AnswersAll Spec ts) _ (spec_answers ts) c.whole_spec.ensures)
+    tree_has _ (λ t. t.statements) Spec ts (All (StatementDeclares (IsWordWhere bytes tokens is_value) (IsWordWhere bytes tokens is_name))) _ (λ tree h. (spec_declares bytes tokens).keeps tree ts h have) (says_too _ (λ t. t.statements) _ (AnswersAll Spec ts) _ (spec_answers ts) c.whole_spec.ensures)
