@@ -29,12 +29,12 @@ then_once first says once behind r s (part, h, k) (other, g, l) =
     follows_once other says (λ x is. behind x (subst first is g)) r s (subst (λ t. Follows t says r) same k) l
 
 -- a grammar without two trees of the same tokens
-pub parses_once : {A : Type 0} (L : Grammar Spelled A) → ((a b : A) (ts : List Spelled) → L a ts → L b ts → a ≡ b) → (start : ℕ) (text : List ℕ) (tokens : List Token) → OneAnswer (Parses L start text tokens)
+pub parses_once : {A : Type 0} (L : Grammar Spelled A) → ((a b : A) (ts : List Spelled) → L (Ok a) ts → L (Ok b) ts → a ≡ b) → (start : ℕ) (text : List ℕ) (tokens : List Token) → OneAnswer (Parses L start text tokens)
 parses_once L one_tree start text tokens (Ok a) (Ok b) h g = let same : a ≡ b = one_tree a b (spelled_all text tokens) h g in cc
-parses_once L one_tree start text tokens (Ok a) (Err f) h (rest, stops, is) = absurd (stops_in_none (spelled_all text tokens) rest stops (a, h))
-parses_once L one_tree start text tokens (Err f) (Ok b) (rest, stops, is) g = absurd (stops_in_none (spelled_all text tokens) rest stops (b, g))
+parses_once L one_tree start text tokens (Ok a) (Err f) h (rest, stops, is) = absurd (stops_in_none L (spelled_all text tokens) rest stops (a, h))
+parses_once L one_tree start text tokens (Err f) (Ok b) (rest, stops, is) g = absurd (stops_in_none L (spelled_all text tokens) rest stops (b, g))
 parses_once L one_tree start text tokens (Err f) (Err e) (r, here, f_is) (s, there, e_is) =
-    let at : r ≡ s = stops_once (spelled_all text tokens) r s here there in
+    let at : r ≡ s = stops_once L (spelled_all text tokens) r s here there in
     let same : f ≡ e = f_is ∙ ap (λ rest. fault_at UNEXPECTED (start + place (length text) rest)) at ∙ sym e_is in
     cc
 

@@ -42,10 +42,10 @@ use Rattle.lgc_spec.proofs.QuantifierShapes.{found_has}
 
 -- ---- trees
 
-one_tree : (a b : List Statement) (ts : List Spelled) → grammar.Spec a ts → grammar.Spec b ts → a ≡ b
+one_tree : (a b : List Statement) (ts : List Spelled) → grammar.Spec (Ok a) ts → grammar.Spec (Ok b) ts → a ≡ b
 one_tree a b ts h g = let same = sym (spec_complete a ts h) ∙ spec_complete b ts g in cc
 
-one_order : (a b : List (List (List Word))) (ts : List Spelled) → Order a ts → Order b ts → a ≡ b
+one_order : (a b : List (List (List Word))) (ts : List Spelled) → Order (Ok a) ts → Order (Ok b) ts → a ≡ b
 one_order a b ts h g = let same = sym (order_complete a ts h) ∙ order_complete b ts g in cc
 
 -- ---- orderings

@@ -24,6 +24,6 @@ tokens_given start text = lexed start (tokens_of text)
 -- The tree of the text's tokens. A fault is at the first token with which no continuation is in the grammar, or at the end
 -- of the text where that comes too early.
 abbrev pub Parses : {A : Type 0} → Grammar Spelled A → ℕ → List ℕ → List Token → Result A SpecFault → Type 0
-Parses L start text tokens (Ok tree) = L tree (spelled_all text tokens)
+Parses L start text tokens (Ok tree) = L (Ok tree) (spelled_all text tokens)
 Parses L start text tokens (Err f) =
-    (rest : List Spelled) × StopsAt (Phrase L) (spelled_all text tokens) rest Unexpected × (f ≡ fault_at UNEXPECTED (start + place (length text) rest))
+    (rest : List Spelled) × StopsAt L (Phrase L) (spelled_all text tokens) rest Unexpected × (f ≡ fault_at UNEXPECTED (start + place (length text) rest))
