@@ -33,7 +33,7 @@ module _ {T A : Type 0} (L : Grammar T A) {P : Language T} where
       by (u ∷ rest) e x way = let same : t ≡ u = cc in x.reason.1 (way.0, subst (λ (v : T). P ((x.front ++ v ∷ []) ++ way.0)) same way.1)
 
   -- a token is unexpected at one place
-  stops_once : (ts r s : List T) → StopsAt L P ts r Unexpected → StopsAt L P ts s Unexpected → r ≡ s
+  pub stops_once : (ts r s : List T) → StopsAt L P ts r Unexpected → StopsAt L P ts s Unexpected → r ≡ s
   stops_once ts r s x y = by (order_of x.front y.front r s (sym x.split ∙ y.split))
     where
       by : ((t : T) × (m : List T) × (y.front ≡ x.front ++ t ∷ m) × (r ≡ t ∷ m ++ s)) ⊎ (((t : T) × (m : List T) × (x.front ≡ y.front ++ t ∷ m) × (s ≡ t ∷ m ++ r)) ⊎ (r ≡ s)) → r ≡ s
@@ -42,7 +42,7 @@ module _ {T A : Type 0} (L : Grammar T A) {P : Language T} where
       by (inr (inr h)) = h
 
   -- and not in a phrase
-  stops_in_none : (ts r : List T) → StopsAt L P ts r Unexpected → P ts → ⊥
+  pub stops_in_none : (ts r : List T) → StopsAt L P ts r Unexpected → P ts → ⊥
   stops_in_none ts [] x h = x.reason.1 (subst P (x.split ∙ append-nil x.front) h)
   stops_in_none ts (t ∷ r) x h = x.reason.1 (r, subst P (x.split ∙ sym (append_assoc x.front (t ∷ []) r)) h)
 
