@@ -2,46 +2,46 @@
 use Rattle.std.proofs.Common.{◌≡◌, ℕ, Bool, true, false, List, Some, Err, inl, inr, subst}
 use Rattle.lgc_grammar.specs.Grammar.{Grammar, One, Allowed, fault_if, Nothing, Mapped, Then, Either, Growing, broken, grown}
 
--- a rule has the number that is told
-pub fault_is : (b : Bool) (n k : ℕ) → fault_if b n ≡ Some k → n ≡ k
+-- Each rule that a token of the grammar can break has a number with this property.
+pub record Only {T A : Type 0} (Q : ℕ → Type 0) (L : Grammar T A) : Type 0 where
+  pub only : (n : ℕ) (ts : List T) → L (Err n) ts → Q n
+
+-- the number that is told
+fault_is : (b : Bool) (n k : ℕ) → fault_if b n ≡ Some k → n ≡ k
 fault_is true n k e = cc
 fault_is false n k e = absurd cc
 
-module _ {T : Type 0} (Q : ℕ → Type 0) where
-  -- each rule that a token can break has a number with this property
-  pub record Only {A : Type 0} (L : Grammar T A) : Type 0 where
-    pub only : (n : ℕ) (ts : List T) → L (Err n) ts → Q n
-
-  pub only_one : (test : T → Bool) → Only (One test)
+module _ {T : Type 0} {Q : ℕ → Type 0} where
+  pub only_one : (test : T → Bool) → Only Q (One test)
   only_one test = record { only = λ n ts h. absurd h }
 
-  pub only_nothing : {A : Type 0} (a : A) → Only (Nothing a)
+  pub only_nothing : {A : Type 0} (a : A) → Only Q (Nothing {T = T} a)
   only_nothing a = record { only = λ n ts h. absurd h }
 
   -- a token that can break one rule
-  pub only_allowed : (test breaks : T → Bool) (number : ℕ) → Q number → Only (Allowed test (λ t. fault_if (breaks t) number))
+  pub only_allowed : (test breaks : T → Bool) (number : ℕ) → Q number → Only Q (Allowed test (λ t. fault_if (breaks t) number))
   only_allowed test breaks number has = record { only = λ n ts h. let (t, passes, told, one) = h in subst Q (fault_is (breaks t) number n told) has }
 
-  pub only_mapped : {A B : Type 0} (f : A → B) (L : Grammar T A) → Only L → Only (Mapped f L)
-  only_mapped f L g = record { only = λ n ts h. g.only n ts h }
+  pub only_mapped : {A B : Type 0} (f : A → B) {L : Grammar T A} → Only Q L → Only Q (Mapped f L)
+  only_mapped f g = record { only = λ n ts h. g.only n ts h }
 
-  pub only_then : {A B : Type 0} (L : Grammar T A) (M : A → Grammar T B) → Only L → ((a : A) → Only (M a)) → Only (Then L M)
-  only_then L M g behind = record { only = by }
+  pub only_then : {A B : Type 0} {L : Grammar T A} {M : A → Grammar T B} → Only Q L → ((a : A) → Only Q (M a)) → Only Q (Then L M)
+  only_then {A} {B} {L} {M} g behind = record { only = by }
     where
       by : (n : ℕ) (ts : List T) → Then L M (Err n) ts → Q n
       by n ts (inl h) = g.only n ts h
-      by n ts (inr (a, v, w, f, h, split)) = let m : Only (M a) = behind a in m.only n w h
+      by n ts (inr (a, v, w, f, h, split)) = let m : Only Q (M a) = behind a in m.only n w h
 
-  pub only_either : {A : Type 0} (L M : Grammar T A) → Only L → Only M → Only (Either L M)
-  only_either L M g k = record { only = by }
+  pub only_either : {A : Type 0} {L M : Grammar T A} → Only Q L → Only Q M → Only Q (Either L M)
+  only_either {A} {L} {M} g k = record { only = by }
     where
       by : (n : ℕ) (ts : List T) → Either L M (Err n) ts → Q n
       by n ts (inl h) = g.only n ts h
       by n ts (inr h) = k.only n ts h
 
-  pub only_growing : {A : Type 0} (L : A → Grammar T A) (a : A) → ((b : A) → Only (L b)) → Only (Growing L a)
-  only_growing {A} L a each = record { only = by a }
+  pub only_growing : {A : Type 0} {L : A → Grammar T A} (a : A) → ((b : A) → Only Q (L b)) → Only Q (Growing L a)
+  only_growing {A} {L} a each = record { only = by a }
     where
       by : (b : A) (n : ℕ) (ts : List T) → Growing L b (Err n) ts → Q n
-      by b n ts (broken _ _ v h) = let m : Only (L b) = each b in m.only n ts h
+      by b n ts (broken _ _ v h) = let m : Only Q (L b) = each b in m.only n ts h
       by b n ts (grown _ c _ v w f g) = by c n w g
