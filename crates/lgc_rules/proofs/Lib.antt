@@ -1,6 +1,3 @@
-pub mod Rights
-pub mod Growings
-pub mod Endings
 pub mod NumberLaws
 pub mod Tables
 pub mod RuleReads
@@ -9,4 +6,5 @@ pub mod Loops
 pub mod Padding
 pub mod Places
 pub mod Fitting
+pub mod RuleFaults
 pub mod Tops

@@ -2,16 +2,15 @@
 -- far, is what it gives from the start. Each turn keeps it by a lemma of this file.
 use Rattle.std.proofs.Common.{◌≡◌, ℕ, Bool, true, false, List, Result, Ok, Err, OnOk, sym, ◌∙◌}
 use Rattle.lgc_grammar.specs.Grammar.{Grammar, Language, Why, Unexpected, Breaks}
-use Rattle.lgc_grammar.specs.Reading.{Reader, next_is}
+use Rattle.lgc_grammar.specs.Reading.{Reader, next_is, growing_at, Turn, onward, last, ending_at}
 use Rattle.lgc_grammar.proofs.Readers.{Reads, Must}
 use Rattle.lgc_rules.specs.declared.fault.Stop.{Stop}
 use Rattle.lgc_rules.specs.declared.fault.Stop.TheVariants as stop
 use Rattle.lgc_rules.specs.Spelled.{Spelled, spelled_all}
-use Rattle.lgc_rules.specs.Words.{Turn, onward, last, growing_at, ending_at}
 use Rattle.lgc_rules.specs.Gives.{Fails}
+use Rattle.lgc_grammar.proofs.EndingTurns.{ending_ends, ending_fails, ending_closes, ending_goes}
 use Rattle.lgc_grammar.proofs.Repetitions.{reads_shrink}
-use Rattle.lgc_rules.proofs.Endings.{ending_ends, ending_fails, ending_closes, ending_goes}
-use Rattle.lgc_rules.proofs.Growings.{shrinks, growing_ends, growing_fails, growing_goes}
+use Rattle.lgc_grammar.proofs.GrowingTrees.{growing_ends, growing_fails, growing_goes}
 
 pub fails_through : {Y Z : Type 0} (bytes : List ℕ) (e : Stop) (r : Result Y (List Spelled × Why)) (s : Result Z (List Spelled × Why)) → ((d : List Spelled × Why) → r ≡ Err d → s ≡ Err d) → Fails bytes e r → Fails bytes e s
 fails_through bytes stop.Memory r s to h = tt
@@ -21,7 +20,7 @@ fails_through bytes (stop.Breaks n rest) r s to h = to (spelled_all bytes rest.n
 module _ {A : Type 0} {first : Spelled → Bool} {p : A → Reader Spelled A} {L : A → Grammar Spelled A} {P : Language Spelled} {go : Spelled → Bool} (reads : (a : A) → Reads (p a) (L a) P (Must first) go) (total : Result (A × List Spelled) (List Spelled × Why)) (a : A) (ts : List Spelled) where
   -- one more phrase
   pub grows : (b : A) (rest : List Spelled) → true ≡ next_is first ts → p a ts ≡ Ok (b, rest) → growing_at first p a ts ≡ total → growing_at first p b rest ≡ total
-  grows b rest h e so_far = sym (growing_goes first p (shrinks reads) a ts b rest (sym h) e) ∙ so_far
+  grows b rest h e so_far = sym (growing_goes first p (λ d. reads_shrink (reads d)) a ts b rest (sym h) e) ∙ so_far
 
   -- a phrase begins, and stops
   pub growth_fails : (bytes : List ℕ) (e : Stop) → true ≡ next_is first ts → Fails bytes e (p a ts) → growing_at first p a ts ≡ total → Fails bytes e total

@@ -1,8 +1,8 @@
 -- The readers of rules read their grammar.
-use Rattle.std.proofs.Common.{◌≡◌, ℕ, ◌+◌, ◌-◌, Bool, true, false, List, [], ◌∷◌, ◌++◌, length, refl, ap, inl, inr}
+use Rattle.std.proofs.Common.{◌≡◌, ℕ, ◌+◌, ◌-◌, Bool, true, false, List, [], ◌∷◌, ◌++◌, length, Result, Ok, Err, refl, ap, inl, inr}
 use Rattle.std.specs.Prelude.{◌||◌, drop}
-use Rattle.lgc_grammar.specs.Grammar.{Grammar, Language, Mapped, Then, Either, One, PlainOne, PlainThen, PlainEither, PlainMany}
-use Rattle.lgc_grammar.specs.Reading.{Reader, next_is}
+use Rattle.lgc_grammar.specs.Grammar.{fault_if, Grammar, Language, Mapped, Then, Either, One, Allowed, PlainOne, PlainThen, PlainEither, PlainMany, Growing}
+use Rattle.lgc_grammar.specs.Reading.{Reader, next_is, Turn, onward, last}
 use Rattle.lgc_grammar.proofs.Readers.{Reads, Must, May, Follows, never, or_right, next_apart, same_reads}
 use Rattle.lgc_grammar.proofs.Basic.{nothing_reads, map_reads}
 use Rattle.lgc_grammar.proofs.Sequences.{then_reads, then_reads_if}
@@ -21,24 +21,23 @@ use Rattle.lgc_rules.specs.Names.{value_of, operator_of, quantifier_of, number, 
 use Rattle.lgc_rules.specs.RuleGrammar.{NumberFrom, Value, NextValue, Set, Literal, NextLiteral, Literals, EmptyClause, Clause, SetBehind, NextAll, LastSome, MoreSets, AllSets, SomeAlone, NoSets, QuantifierClause, NextClause, Clauses, OperatorHead, QuantifierHead, Body, OfOperator, OfQuantifier, OneRule, NextRule, Rules, operator_rule, quantifier_rule}
 use Rattle.lgc_rules.specs.PlainGrammar.{PlainNextValue, PlainSet, PlainLiteral, PlainLiterals, PlainClause, PlainNextAll, PlainLastSome, PlainMoreSets, PlainQuantifierClause, PlainClauses, PlainOperatorHead, PlainQuantifierHead, PlainBody, PlainRule, PlainRules, ◌then◌}
 use Rattle.lgc_rules.specs.RuleReading.{number_at, value_at, next_value_at, more_values_at, set_at, literal_at, next_literal_at, more_literals_at, literals_at, empty_clause_at, clause_at, set_behind_at, next_set_at, more_sets_at, all_sets_at, some_alone_at, no_sets_at, quantifier_clause_at, next_clause_at, more_clauses_at, some_clauses_at, clauses_at, operator_name_at, operator_head_at, quantifier_name_at, quantifier_head_at, body_at, of_operator_at, of_quantifier_at, of_symbol_at, rule_at, next_rule_at, rules_at}
-use Rattle.lgc_rules.specs.Words.{Right, Growing, Turn, onward, last}
-use Rattle.lgc_rules.proofs.Tables.{off, one, any, right}
-use Rattle.lgc_rules.proofs.Growings.{growing_reads}
-use Rattle.lgc_rules.proofs.Endings.{Turned, ending_reads}
+use Rattle.lgc_rules.proofs.Tables.{off, one, any, allowed}
+use Rattle.lgc_grammar.proofs.GrowingTrees.{growing_reads}
+use Rattle.lgc_grammar.proofs.EndingTurns.{Turned, ending_reads}
 
 -- a repetition behind what it goes on from: what follows both is one more, or what follows all
 grows_on : {T : Type 0} (first go : T → Bool) → ((t : T) → first t ≡ true → go t ≡ false) → Follows (May first) (λ t. first t || go t) go
 grows_on first go apart = (apart, (λ t h. or_right (first t) (go t) h))
 
-pub number_reads : (least most fault : ℕ) (test : Terminal) → Reads (number_at least most fault test) (NumberFrom least most (is_a test)) (PlainOne (is_a test)) (Must (is_a test)) never
+pub number_reads : (least most fault : ℕ) (test : Terminal) → Reads (number_at least most fault test) (NumberFrom least most fault (is_a test)) (PlainOne (is_a test)) (Must (is_a test)) never
 unfolding number_at
-number_reads least most fault test = map_reads number (right test (is_outside least most) fault)
+number_reads least most fault test = map_reads number (allowed test (λ t. fault_if (is_outside least most t) fault))
 
 -- ---- sets
 
 value_reads : (logic : Logic) → Reads (value_at logic) (Value logic) (PlainOne is_value) (Must is_value) never
 unfolding value_at
-value_reads logic = map_reads (value_of logic) (right terminal.Value (names_no_value logic) UNKNOWN_VALUE)
+value_reads logic = map_reads (value_of logic) (allowed terminal.Value (λ t. fault_if (names_no_value logic t) UNKNOWN_VALUE))
 
 pub next_value_reads : (n : ℕ) (logic : Logic) (set : List ℕ) → Reads (next_value_at n logic set) (NextValue n logic set) PlainNextValue (Must (is Comma)) never
 next_value_reads n logic set =
@@ -111,15 +110,22 @@ module _ (n : ℕ) (logic : Logic) (all : List (List ℕ)) where
       then_reads (one Comma) (λ _.
       either_reads (map_reads (λ set. onward (all ++ set ∷ [])) (set_behind_reads AllWord n logic)) (map_reads (λ some. last (some ∷ all)) (set_behind_reads SomeWord n logic)) (off (same SomeWord) (same AllWord) refl))
 
-  to_turn : (x : Turn (List (List ℕ)) (List (List ℕ))) (ts : List Spelled) → CommaSet x ts → Turned (NextAll n logic all) (LastSome n logic all) x ts
+  to_turn : (r : Result (Turn (List (List ℕ)) (List (List ℕ))) ℕ) (ts : List Spelled) → CommaSet r ts → Turned (NextAll n logic all) (LastSome n logic all) r ts
   unfolding CommaSet
-  to_turn x ts (t, v, w, o, inl (set, is, f), s) = rw is (t, v, w, o, (set, refl, f), s)
-  to_turn x ts (t, v, w, o, inr (some, is, f), s) = rw is (t, v, w, o, (some, refl, f), s)
+  to_turn (Ok x) ts (t, v, w, o, inl (set, is, f), s) = rw is (t, v, w, o, (set, refl, f), s)
+  to_turn (Ok x) ts (t, v, w, o, inr (some, is, f), s) = rw is (t, v, w, o, (some, refl, f), s)
+  to_turn (Err k) ts (inl h) = absurd h
+  to_turn (Err k) ts (inr (t, v, w, o, inl f, s)) = inl (inr (t, v, w, o, f, s))
+  to_turn (Err k) ts (inr (t, v, w, o, inr f, s)) = inr (inr (t, v, w, o, f, s))
 
-  from_turn : (x : Turn (List (List ℕ)) (List (List ℕ))) (ts : List Spelled) → Turned (NextAll n logic all) (LastSome n logic all) x ts → CommaSet x ts
+  from_turn : (r : Result (Turn (List (List ℕ)) (List (List ℕ))) ℕ) (ts : List Spelled) → Turned (NextAll n logic all) (LastSome n logic all) r ts → CommaSet r ts
   unfolding CommaSet
-  from_turn (onward a) ts (t, v, w, o, (set, is, f), s) = (t, v, w, o, inl (set, ap onward is, f), s)
-  from_turn (last c) ts (t, v, w, o, (some, is, f), s) = (t, v, w, o, inr (some, ap last is, f), s)
+  from_turn (Ok (onward a)) ts (t, v, w, o, (set, is, f), s) = (t, v, w, o, inl (set, ap onward is, f), s)
+  from_turn (Ok (last c)) ts (t, v, w, o, (some, is, f), s) = (t, v, w, o, inr (some, ap last is, f), s)
+  from_turn (Err k) ts (inl (inl h)) = absurd h
+  from_turn (Err k) ts (inl (inr (t, v, w, o, f, s))) = inr (t, v, w, o, inl f, s)
+  from_turn (Err k) ts (inr (inl h)) = absurd h
+  from_turn (Err k) ts (inr (inr (t, v, w, o, f, s))) = inr (t, v, w, o, inr f, s)
 
   to_plain : (ts : List Spelled) → PlainCommaSet ts → PlainEither PlainNextAll PlainLastSome ts
   unfolding PlainCommaSet
@@ -134,10 +140,10 @@ module _ (n : ℕ) (logic : Logic) (all : List (List ℕ)) where
   pub next_set_reads : Reads (next_set_at n logic all) (Turned (NextAll n logic all) (LastSome n logic all)) (PlainEither PlainNextAll PlainLastSome) (Must (is Comma)) never
   next_set_reads = same_reads comma_set_reads to_turn from_turn to_plain from_plain
 
-  next_all_plain : (b : List (List ℕ)) (v : List Spelled) → NextAll n logic all b v → PlainNextAll v
+  next_all_plain : (b : List (List ℕ)) (v : List Spelled) → NextAll n logic all (Ok b) v → PlainNextAll v
   next_all_plain b v (t, x, w, o, (set, is, f), s) = (x, w, (t, o), (set_behind_reads AllWord n logic).is_plain set w f, s)
 
-  last_some_plain : (c : List (List ℕ)) (v : List Spelled) → LastSome n logic all c v → PlainLastSome v
+  last_some_plain : (c : List (List ℕ)) (v : List Spelled) → LastSome n logic all (Ok c) v → PlainLastSome v
   last_some_plain c v (t, x, w, o, (some, is, f), s) = (x, w, (t, o), (set_behind_reads SomeWord n logic).is_plain some w f, s)
 
 -- the word behind the comma
@@ -153,7 +159,7 @@ two_words v f g =
 
 pub more_sets_read : (n : ℕ) (logic : Logic) (all : List (List ℕ)) → Reads (more_sets_at n logic all) (MoreSets n logic all) PlainMoreSets (May (is Comma)) (λ t. is Comma t || never t)
 unfolding more_sets_at
-more_sets_read n logic all = ending_reads (λ sets. [] ∷ sets) (next_set_reads n logic) (next_all_plain n logic) (last_some_plain n logic) two_words (λ t h. refl) all
+more_sets_read n logic all = ending_reads (λ sets. [] ∷ sets) (NextAll n logic) (LastSome n logic) (next_set_reads n logic) (next_all_plain n logic) (last_some_plain n logic) two_words (λ t h. refl) all
 
 all_sets_read : (n : ℕ) (logic : Logic) → Reads (all_sets_at n logic) (AllSets n logic) (PlainThen (AllWord then PlainSet) PlainMoreSets) (Must (is AllWord)) (λ t. is Comma t || never t)
 unfolding all_sets_at
@@ -213,9 +219,9 @@ module _ {p : Reader Spelled (List (List ℕ))} {L : Grammar Spelled (List (List
 
 -- ---- rules
 
-operator_name_reads : (logic : Logic) → Reads (operator_name_at logic) (Mapped (operator_of logic) (Right is_name (names_no_operator logic))) (PlainOne is_name) (Must is_name) never
+operator_name_reads : (logic : Logic) → Reads (operator_name_at logic) (Mapped (operator_of logic) (Allowed is_name (λ t. fault_if (names_no_operator logic t) UNKNOWN_NAME))) (PlainOne is_name) (Must is_name) never
 unfolding operator_name_at
-operator_name_reads logic = map_reads (operator_of logic) (right terminal.Name (names_no_operator logic) UNKNOWN_NAME)
+operator_name_reads logic = map_reads (operator_of logic) (allowed terminal.Name (λ t. fault_if (names_no_operator logic t) UNKNOWN_NAME))
 
 operator_head_reads : (logic : Logic) → Reads (operator_head_at logic) (OperatorHead logic) PlainOperatorHead (Must (is OperatorWord)) never
 unfolding operator_head_at
@@ -230,7 +236,7 @@ quantifier_head_reads : (logic : Logic) → Reads (quantifier_head_at logic) (Qu
 unfolding quantifier_head_at quantifier_name_at
 quantifier_head_reads logic =
     then_reads (one QuantifierWord) (λ _.
-    map_reads (quantifier_of logic) (right terminal.Name (names_no_quantifier logic) UNKNOWN_NAME))
+    map_reads (quantifier_of logic) (allowed terminal.Name (λ t. fault_if (names_no_quantifier logic t) UNKNOWN_NAME)))
 
 of_operator_reads : (n : ℕ) (logic : Logic) → Reads (of_operator_at n logic) (OfOperator n logic) (PlainThen PlainOperatorHead (PlainBody PlainClause)) (Must (is OperatorWord)) never
 unfolding of_operator_at

@@ -1,10 +1,11 @@
 -- Single tokens: a token of each class, and that no token passes two tests of different classes.
-use Rattle.std.proofs.Common.{◌≡◌, ℕ, Bool, true, false, List, [], Some, refl, ap, ◌∙◌}
+use Rattle.std.proofs.Common.{◌≡◌, ℕ, Bool, true, false, List, [], Option, Some, refl, ap, ◌∙◌}
 use Rattle.std.specs.Prelude.{codes, not, ◌&&◌}
-use Rattle.lgc_grammar.specs.Grammar.{One, PlainOne}
-use Rattle.lgc_grammar.specs.Reading.{one_at}
+use Rattle.lgc_grammar.specs.Grammar.{One, Allowed, PlainOne}
+use Rattle.lgc_grammar.specs.Reading.{one_at, allowed_at}
 use Rattle.lgc_grammar.proofs.Readers.{Reads, Must, never}
 use Rattle.lgc_grammar.proofs.Basic.{one_reads}
+use Rattle.lgc_grammar.proofs.AllowedTokens.{allowed_reads}
 use Rattle.lgc_grammar.proofs.Classes.{IsTable, entry, all_pass, apart}
 use Rattle.lgc_lexer.specs.declared.token.Kind.{Kind}
 use Rattle.lgc_lexer.specs.declared.token.Kind.TheVariants as kind
@@ -12,11 +13,9 @@ use Rattle.lgc_rules.specs.declared.class.Class.{Class}
 use Rattle.lgc_rules.specs.declared.class.Class.TheVariants.{RuleWord, AtWord, OperatorWord, QuantifierWord, AllWord, SomeWord, Lower, Upper, Zero, CaretZero, Number, Digits, Quoted, Text, Caret, Symbol, OpenBrace, CloseBrace, OpenSquare, CloseSquare, Comma, Dot, Colon, Semicolon, Slash, Punct}
 use Rattle.lgc_rules.specs.declared.terminal.Terminal.{Terminal}
 use Rattle.lgc_rules.specs.declared.terminal.Terminal.TheVariants as terminal
-use Rattle.lgc_rules.specs.Words.{Right, right_at}
 use Rattle.lgc_rules.specs.Numbers.{number_in}
 use Rattle.lgc_rules.specs.Spelled.{Spelled}
 use Rattle.lgc_rules.specs.Classes.{classes, place, same, class_of, class_of_word, class_of_punct, passes, is, is_a}
-use Rattle.lgc_rules.proofs.Rights.{right_reads}
 
 table : IsTable classes
 table = record { place = place; holds = holds }
@@ -92,9 +91,9 @@ some_passes t = ap (passes t) (is_of_class (sample t)) ∙ sample_passes t
 pub one : (c : Class) → Reads (one_at (is c)) (One (is c)) (PlainOne (is c)) (Must (is c)) never
 one c = one_reads (is c) (token c) (some_passes (terminal.Only c))
 
--- one token of a terminal that has to keep a rule
-pub right : (t : Terminal) (breaks : Spelled → Bool) (n : ℕ) → Reads (right_at (is_a t) breaks n) (Right (is_a t) breaks) (PlainOne (is_a t)) (Must (is_a t)) never
-right t breaks n = right_reads (is_a t) breaks n (token (sample t)) (some_passes t)
+-- one token of a terminal that may break a rule
+pub allowed : (t : Terminal) (fault : Spelled → Option ℕ) → Reads (allowed_at (is_a t) fault) (Allowed (is_a t) fault) (PlainOne (is_a t)) (Must (is_a t)) never
+allowed t fault = allowed_reads (is_a t) fault (token (sample t)) (some_passes t)
 
 -- one token of a terminal
 pub any : (t : Terminal) → Reads (one_at (is_a t)) (One (is_a t)) (PlainOne (is_a t)) (Must (is_a t)) never

@@ -1,6 +1,6 @@
 -- What the functions that read have to answer.
 use Rattle.std.specs.Prelude.{◌≡◌, ℕ, List, length, Result, Ok, Err}
-use Rattle.lgc_grammar.specs.Grammar.{Why, Unexpected, Breaks}
+use Rattle.lgc_grammar.specs.Grammar.{Grammar, Language, Why, Unexpected, Breaks, StopsAt}
 use Rattle.lgc_syntax.specs.declared.fault.InputFault.{InputFault}
 use Rattle.lgc_syntax.specs.declared.fault.InputFault.TheVariants as fault
 use Rattle.lgc_syntax.specs.declared.fault.TheConstants.{UNEXPECTED}
@@ -25,6 +25,16 @@ Gives bytes view (Err e) read = Fails bytes e read
 abbrev pub fault_of : ℕ → List Spelled × Why → InputFault
 fault_of end (rest, Unexpected) = fault.Fault UNEXPECTED (place end rest)
 fault_of end (rest, Breaks n) = fault.Fault n (place end rest)
+
+-- The fault is that of the token before which reading the tokens stops.
+abbrev pub IsFaultIn : {A : Type 0} → Grammar Spelled A → Language Spelled → ℕ → List Spelled → InputFault → Type 0
+IsFaultIn L P end ts f = (rest : List Spelled) × (why : Why) × StopsAt L P ts rest why × (f ≡ fault_of end (rest, why))
+
+-- The number of a fault has this property.
+abbrev pub IfFault : {X : Type 0} → Result X InputFault → (ℕ → Type 0) → Type 0
+IfFault (Ok x) says = Unit {0}
+IfFault (Err fault.Memory) says = Unit {0}
+IfFault (Err (fault.Fault number offset)) says = says number
 
 -- What a function answered has this property. Nothing is said where memory ran out.
 abbrev pub Holds : {X : Type 0} → (Result X InputFault → Type 0) → Result X InputFault → Type 0

@@ -1,4 +1,3 @@
-pub mod Words
 pub mod Spelled
 pub mod Numbers
 pub mod Classes

@@ -1,6 +1,5 @@
 -- What the bytes of a rule file give: its rules, or its first fault.
-use Rattle.std.specs.Prelude.{◌≡◌, ◌≤◌, ℕ, nat_lt, Bool, true, false, List, length, Result, Ok, Err, if◌then◌else◌}
-use Rattle.lgc_grammar.specs.Grammar.{Why, StopsAt}
+use Rattle.std.specs.Prelude.{◌≡◌, ◌≤◌, ◌⊎◌, ℕ, nat_lt, Bool, true, false, List, length, Result, Ok, Err, if◌then◌else◌}
 use Rattle.lgc_grammar.specs.Reading.{whole}
 use Rattle.lgc_lexer.specs.declared.token.Token.{Token}
 use Rattle.lgc_lexer.specs.declared.fault.LexFault.{LexFault}
@@ -15,11 +14,11 @@ use Rattle.lgc_syntax.specs.declared.fault.InputFault.{InputFault}
 use Rattle.lgc_syntax.specs.declared.fault.InputFault.TheVariants as fault
 use Rattle.lgc_syntax.specs.declared.fault.TheConstants.{FILE_TOO_LONG, BAD_BYTE, OPEN_QUOTE}
 use Rattle.lgc_rules.specs.declared.file.TheConstants.{LONGEST_FILE}
-use Rattle.lgc_rules.specs.Spelled.{Spelled, spelled_all}
+use Rattle.lgc_rules.specs.Spelled.{spelled_all}
 use Rattle.lgc_rules.specs.RuleGrammar.{Rules}
 use Rattle.lgc_rules.specs.PlainGrammar.{PlainRules}
 use Rattle.lgc_rules.specs.RuleReading.{rules_at}
-use Rattle.lgc_rules.specs.Gives.{fault_of, told_of}
+use Rattle.lgc_rules.specs.Gives.{IsFaultIn, told_of}
 
 -- a rule for the logic, whose clauses and sets have numbers of 32 bits
 pub record IsRuleFor (n : ℕ) (logic : Logic) (rule : Rule n) : Type 0 where
@@ -28,12 +27,11 @@ pub record IsRuleFor (n : ℕ) (logic : Logic) (rule : Rule n) : Type 0 where
 
 -- ---- as a relation
 
--- What the tokens of a file give: the rules of the grammar. Else the fault is at the first token with which no rule file goes
--- on, or which breaks a rule.
+-- What the tokens of a file give: the rules of the grammar. Else the fault is at the first token that breaks a rule of the
+-- grammar, or with which no rule file goes on.
 abbrev pub TokensGive : (n : ℕ) → Logic → List ℕ → List Token → Result (List (Rule n)) InputFault → Type 0
-TokensGive n logic bytes tokens (Ok rules) = Rules n logic rules (spelled_all bytes tokens)
-TokensGive n logic bytes tokens (Err f) =
-    (rest : List Spelled) × (why : Why) × StopsAt PlainRules (spelled_all bytes tokens) rest why × (f ≡ fault_of (length bytes) (rest, why))
+TokensGive n logic bytes tokens (Ok rules) = Rules n logic (Ok rules) (spelled_all bytes tokens)
+TokensGive n logic bytes tokens (Err f) = IsFaultIn (Rules n logic) PlainRules (length bytes) (spelled_all bytes tokens) f
 
 -- the same behind what cutting the bytes into tokens gives
 abbrev pub LexedGive : (n : ℕ) → Logic → List ℕ → Result (List Token) LexFault → Result (List (Rule n)) InputFault → Type 0
@@ -56,7 +54,15 @@ pub record IsFileOf (n : ℕ) (logic : Logic) (bytes : List ℕ) (rules : List (
   pub short : length bytes ≤ LONGEST_FILE
   pub tokens : List Token
   pub lexed : tokens_of bytes ≡ Ok tokens
-  pub derived : Rules n logic rules (spelled_all bytes tokens)
+  pub derived : Rules n logic (Ok rules) (spelled_all bytes tokens)
+
+-- the numbers of the faults of a rule that begins among tokens: 4 to 6, and 10 to 12
+abbrev pub IsRuleFault : ℕ → Type 0
+IsRuleFault number = ((4 ≤ number) × (number ≤ 6)) ⊎ ((10 ≤ number) × (number ≤ 12))
+
+-- the numbers of the faults of a file: 1 to 6, and 10 to 12
+abbrev pub IsFileFault : ℕ → Type 0
+IsFileFault number = ((1 ≤ number) × (number ≤ 6)) ⊎ ((10 ≤ number) × (number ≤ 12))
 
 -- ---- as a function
 

@@ -1,17 +1,18 @@
--- The grammar of rule files for a logic of n truth values, line by line. Its phrases keep every rule, and its trees are those
--- of the code.
+-- The grammar of rule files for a logic of n truth values, line by line. It says which trees the phrases have that keep every
+-- rule, and which rule the last token breaks where one is broken.
 --
 -- A rule file is read against a logic: an operator is one of the logic and has its arity, a quantifier is one of the logic, a
--- value is a truth value, the numbers of a clause's arguments rise, and the k-th rule has the number k.
+-- value is a truth value, the numbers of a clause's arguments rise, and the k-th rule has the number k. Each of these rules has
+-- its number, which stands beside the tokens that can break it. No token can break two of them.
 use Rattle.std.specs.Prelude.{ℕ, ◌+◌, ◌-◌, Bool, List, [], ◌∷◌, ◌++◌, length}
-use Rattle.lgc_grammar.specs.Grammar.{Grammar, One, Nothing, Mapped, ◌>>=◌, ◌>>◌, Either, Optional}
+use Rattle.lgc_grammar.specs.Grammar.{Grammar, One, fault_if, Allowed, Nothing, Mapped, ◌>>=◌, ◌>>◌, Either, Optional, Growing}
+use Rattle.lgc_syntax.specs.declared.fault.TheConstants.{UNKNOWN_NAME, WRONG_ARITY, UNKNOWN_VALUE, BAD_ARGUMENT, MISNUMBERED}
 use Rattle.lgc_values.specs.Logic.{Logic, operator_at}
 use Rattle.lgc_clauses.specs.declared.rule.Rule.{Rule}
 use Rattle.lgc_clauses.specs.declared.rule.Rule.TheVariants as rule
 use Rattle.lgc_rules.specs.declared.rule.Numbered.{Numbered}
 use Rattle.lgc_rules.specs.declared.class.Class.TheVariants.{RuleWord, AtWord, OperatorWord, QuantifierWord, AllWord, SomeWord, Zero, Caret, OpenBrace, CloseBrace, OpenSquare, CloseSquare, Comma, Dot, Colon, Semicolon, Slash}
 use Rattle.lgc_rules.specs.declared.class.Class.{Class}
-use Rattle.lgc_rules.specs.Words.{Right, Growing}
 use Rattle.lgc_rules.specs.Spelled.{Spelled}
 use Rattle.lgc_rules.specs.Classes.{is, is_name, is_number, is_argument, is_zero, is_value}
 use Rattle.lgc_rules.specs.Names.{value_of, operator_of, quantifier_of, number, names_no_value, names_no_operator, names_no_quantifier, is_outside, with_value, padded}
@@ -26,15 +27,15 @@ quantifier_rule n quant sign clauses = rule.Quantifier (record { quant = quant; 
 
 -- ---- numbers
 
--- a number from `least` to `most`
-abbrev pub NumberFrom : ℕ → ℕ → (Spelled → Bool) → Grammar Spelled ℕ
-NumberFrom least most test = Mapped number (Right test (is_outside least most))
+-- a number from `least` to `most`; another one breaks the rule `fault`
+abbrev pub NumberFrom : ℕ → ℕ → ℕ → (Spelled → Bool) → Grammar Spelled ℕ
+NumberFrom least most fault test = Mapped number (Allowed test (λ t. fault_if (is_outside least most t) fault))
 
 -- ---- sets
 
 -- value = Lower | Upper | Digits | Quoted | Symbol, the name of a truth value
 abbrev pub Value : Logic → Grammar Spelled ℕ
-Value logic = Mapped (value_of logic) (Right is_value (names_no_value logic))
+Value logic = Mapped (value_of logic) (Allowed is_value (λ t. fault_if (names_no_value logic t) UNKNOWN_VALUE))
 
 -- "," value, which is added to a set
 abbrev pub NextValue : ℕ → Logic → List ℕ → Grammar Spelled (List ℕ)
@@ -57,7 +58,7 @@ Set n logic = do
 -- literal = number Symbol "^" set, for an argument behind those that have their sets, which are these
 abbrev pub Literal : ℕ → Logic → ℕ → (Spelled → Bool) → List (List ℕ) → Grammar Spelled (List (List ℕ))
 Literal n logic arity test sets = do
-  argument ← NumberFrom (length sets + 1) arity test
+  argument ← NumberFrom (length sets + 1) arity BAD_ARGUMENT test
   One (is Caret)
   set ← Set n logic
   Nothing (padded (argument - 1) sets ++ set ∷ [])
@@ -146,16 +147,16 @@ Clauses L = Optional [] (do
 abbrev pub OperatorHead : Logic → Grammar Spelled ℕ
 OperatorHead logic = do
   One (is OperatorWord)
-  op ← Mapped (operator_of logic) (Right is_name (names_no_operator logic))
+  op ← Mapped (operator_of logic) (Allowed is_name (λ t. fault_if (names_no_operator logic t) UNKNOWN_NAME))
   One (is Slash)
-  NumberFrom (operator_at logic op).arity (operator_at logic op).arity is_number
+  NumberFrom (operator_at logic op).arity (operator_at logic op).arity WRONG_ARITY is_number
   Nothing op
 
 -- "quantifier" name, the name of a quantifier
 abbrev pub QuantifierHead : Logic → Grammar Spelled ℕ
 QuantifierHead logic = do
   One (is QuantifierWord)
-  Mapped (quantifier_of logic) (Right is_name (names_no_quantifier logic))
+  Mapped (quantifier_of logic) (Allowed is_name (λ t. fault_if (names_no_quantifier logic t) UNKNOWN_NAME))
 
 -- body = "at" set ":" "[" [ clause { ";" clause } ] "]" "."
 abbrev pub Body : (n : ℕ) → Logic → Grammar Spelled (List (List ℕ)) → (List ℕ → List (List (List ℕ)) → Rule n) → Grammar Spelled (Rule n)
@@ -185,7 +186,7 @@ OfQuantifier n logic = do
 abbrev pub OneRule : (n : ℕ) → Logic → ℕ → ℕ → Grammar Spelled (Numbered n)
 OneRule n logic least most = do
   One (is RuleWord)
-  number ← NumberFrom least most is_number
+  number ← NumberFrom least most MISNUMBERED is_number
   One (is Colon)
   rule ← Either (OfOperator n logic) (OfQuantifier n logic)
   Nothing (record { number = number; rule = rule })

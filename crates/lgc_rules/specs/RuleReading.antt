@@ -1,6 +1,7 @@
 -- The readers of rule files, line by line as their grammar.
 use Rattle.std.specs.Prelude.{ℕ, ◌+◌, ◌-◌, Bool, List, [], ◌∷◌, ◌++◌, length}
-use Rattle.lgc_grammar.specs.Reading.{Reader, one_at, nothing_at, map_at, ◌>>=◌, ◌>>◌, either_at, optional_at}
+use Rattle.lgc_grammar.specs.Grammar.{fault_if}
+use Rattle.lgc_grammar.specs.Reading.{Reader, one_at, allowed_at, nothing_at, map_at, ◌>>=◌, ◌>>◌, either_at, optional_at, growing_at, Turn, onward, last, ending_at}
 use Rattle.lgc_values.specs.Logic.{Logic, operator_at}
 use Rattle.lgc_clauses.specs.declared.rule.Rule.{Rule}
 use Rattle.lgc_syntax.specs.declared.fault.TheConstants.{UNKNOWN_NAME, WRONG_ARITY, UNKNOWN_VALUE, BAD_ARGUMENT, MISNUMBERED}
@@ -9,7 +10,6 @@ use Rattle.lgc_rules.specs.declared.class.Class.TheVariants.{RuleWord, AtWord, O
 use Rattle.lgc_rules.specs.declared.class.Class.{Class}
 use Rattle.lgc_rules.specs.declared.terminal.Terminal.{Terminal}
 use Rattle.lgc_rules.specs.declared.terminal.Terminal.TheVariants as terminal
-use Rattle.lgc_rules.specs.Words.{Turn, onward, last, right_at, growing_at, ending_at}
 use Rattle.lgc_rules.specs.Spelled.{Spelled}
 use Rattle.lgc_rules.specs.Classes.{is, is_a, is_name, is_number, is_zero, is_value, starts_quantifier_clause}
 use Rattle.lgc_rules.specs.RuleGrammar.{operator_rule, quantifier_rule}
@@ -17,12 +17,12 @@ use Rattle.lgc_rules.specs.Names.{value_of, operator_of, quantifier_of, number, 
 
 -- a number from `least` to `most`; another one breaks the rule `fault`
 unfoldable pub number_at : ℕ → ℕ → ℕ → Terminal → Reader Spelled ℕ
-number_at least most fault test ts = map_at number (right_at (is_a test) (is_outside least most) fault) ts
+number_at least most fault test ts = map_at number (allowed_at (is_a test) (λ t. fault_if (is_outside least most t) fault)) ts
 
 -- ---- sets
 
 unfoldable pub value_at : Logic → Reader Spelled ℕ
-value_at logic ts = map_at (value_of logic) (right_at is_value (names_no_value logic) UNKNOWN_VALUE) ts
+value_at logic ts = map_at (value_of logic) (allowed_at is_value (λ t. fault_if (names_no_value logic t) UNKNOWN_VALUE)) ts
 
 abbrev pub next_value_at : ℕ → Logic → List ℕ → Reader Spelled (List ℕ)
 next_value_at n logic set = do
@@ -128,7 +128,7 @@ clauses_at first p ts = optional_at first [] (some_clauses_at p) ts
 -- ---- rules
 
 unfoldable pub operator_name_at : Logic → Reader Spelled ℕ
-operator_name_at logic ts = map_at (operator_of logic) (right_at is_name (names_no_operator logic) UNKNOWN_NAME) ts
+operator_name_at logic ts = map_at (operator_of logic) (allowed_at is_name (λ t. fault_if (names_no_operator logic t) UNKNOWN_NAME)) ts
 
 unfoldable pub operator_head_at : Logic → Reader Spelled ℕ
 operator_head_at logic = do
@@ -139,7 +139,7 @@ operator_head_at logic = do
   nothing_at op
 
 unfoldable pub quantifier_name_at : Logic → Reader Spelled ℕ
-quantifier_name_at logic ts = map_at (quantifier_of logic) (right_at is_name (names_no_quantifier logic) UNKNOWN_NAME) ts
+quantifier_name_at logic ts = map_at (quantifier_of logic) (allowed_at is_name (λ t. fault_if (names_no_quantifier logic t) UNKNOWN_NAME)) ts
 
 unfoldable pub quantifier_head_at : Logic → Reader Spelled ℕ
 quantifier_head_at logic = do

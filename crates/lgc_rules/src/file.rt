@@ -1,17 +1,18 @@
 // Reading rule files, and single rules among tokens.
-ghost use Rattle.std.specs.Prelude.{◌≡◌, [], ◌+◌, ◌<◌, ◌≤◌, ◌^◌, ◌-◌, ◌++◌, List, length, drop, All, IfOk, Ok};
+ghost use Rattle.std.specs.Prelude.{◌≡◌, ℕ, [], ◌+◌, ◌<◌, ◌≤◌, ◌^◌, ◌-◌, ◌++◌, List, length, drop, All, IfOk, Result, Ok};
 ghost use Rattle.lgc_grammar.specs.Reading.{whole};
 ghost use Rattle.lgc_lexer.specs.Spans.{AllIn};
 ghost use Rattle.lgc_lexer.specs.Tokens.{tokens_of};
 ghost use Rattle.lgc_clauses.specs.declared.rule.Rule.{Rule};
+ghost use Rattle.lgc_syntax.specs.declared.fault.InputFault.{InputFault};
 ghost use Rattle.lgc_syntax.specs.declared.fault.InputFault.TheVariants.{Fault};
 ghost use Rattle.lgc_rules.specs.declared.number.TheConstants.{MOST_NUMBER};
 ghost use Rattle.lgc_rules.specs.declared.rule.Numbered.{Numbered};
 ghost use Rattle.lgc_rules.specs.Spelled.{Spelled, spelled_all, IsRest, IsShorter};
 ghost use Rattle.lgc_rules.specs.RuleReading.{next_rule_at, rules_at};
-ghost use Rattle.lgc_rules.specs.Gives.{Gives, Holds, IsTree, Tells, told_of, stop_told};
-ghost use Rattle.lgc_rules.specs.RuleFile.{IsRuleFor, FileGives, IsFileOf, file_read};
-ghost use Rattle.lgc_rules.specs.RulePlace.{AnyNumbered, RuleGives, rule_read};
+ghost use Rattle.lgc_rules.specs.Gives.{Gives, Holds, IfFault, IsTree, Tells, told_of, stop_told};
+ghost use Rattle.lgc_rules.specs.RuleFile.{IsRuleFor, FileGives, IsFileOf, IsRuleFault, IsFileFault, file_read};
+ghost use Rattle.lgc_rules.specs.RulePlace.{AnyNumbered, RuleGives, with_rest, rule_read};
 
 use crate::class::Class;
 use crate::fault::Stop;
@@ -136,12 +137,16 @@ pub fn read_rules<const N: usize>(
     m: &Matrix<N>,
     bytes: &[u8],
 ) -> Result<List<Rule<N>>, InputFault>
-    // The rules are the grammar's, and a fault is at the first token with which no rule file goes on, or which breaks a rule.
+    // The rules are the grammar's, and a fault is at the first token that breaks a rule, or with which no rule file goes on.
     ensures answer { Holds (FileGives N m.now bytes.now) result }
+    // No other answer is right.
+    ensures once { (told : Result (List (Rule N)) InputFault) → FileGives N m.now bytes.now told → Tells (λ rules. rules) result told }
     // What is in the grammar is read, with these rules alone.
     ensures complete { (rules : List (Rule N)) → IsFileOf N m.now bytes.now rules → IsTree (λ rules. rules) result rules }
     // Each is a rule for the logic.
     ensures fits { IfOk result (λ rules. All (IsRuleFor N m.now) rules) }
+    // The number of a fault is one from 1 to 6, or from 10 to 12.
+    ensures faults { IfFault result IsFileFault }
     // The same as one function of the bytes.
     ensures exact { Tells (λ rules. rules) result (file_read N m.now bytes.now) }
 {
@@ -202,12 +207,16 @@ pub fn rule_at<const N: usize>(
     requires length { length bytes.now < 2 ^ 32 }
     requires tokens { tokens_of bytes.now ≡ Ok tokens.now }
     requires at { at ≤ length tokens.now }
-    // The rule is one of the grammar, and a fault is at the first token with which no rule goes on, or which breaks a rule.
+    // The rule is one of the grammar, and a fault is at the first token that breaks a rule, or with which no rule goes on.
     ensures answer { Holds (RuleGives N m.now (length bytes.now) (spelled_all bytes.now tokens.now) at) result }
+    // No other answer is right.
+    ensures once { (told : Result (Numbered N × ℕ) InputFault) → RuleGives N m.now (length bytes.now) (spelled_all bytes.now tokens.now) at told → Tells (λ x. (x.0, drop x.1 (spelled_all bytes.now tokens.now))) result (with_rest (spelled_all bytes.now tokens.now) told) }
     // A rule that stands there is read.
-    ensures complete { (rule : Numbered N) (front rest : List Spelled) → drop at (spelled_all bytes.now tokens.now) ≡ front ++ rest → AnyNumbered N m.now rule front → IsTree {A = Numbered N × List Spelled} (λ x. (x.0, drop x.1 (spelled_all bytes.now tokens.now))) result (rule, rest) }
+    ensures complete { (rule : Numbered N) (front rest : List Spelled) → drop at (spelled_all bytes.now tokens.now) ≡ front ++ rest → AnyNumbered N m.now (Ok rule) front → IsTree {A = Numbered N × List Spelled} (λ x. (x.0, drop x.1 (spelled_all bytes.now tokens.now))) result (rule, rest) }
     // It is a rule for the logic.
     ensures fits { IfOk result (λ x. IsRuleFor N m.now x.0.rule) }
+    // The number of a fault is one from 4 to 6, or from 10 to 12.
+    ensures faults { IfFault result IsRuleFault }
     // The place behind it is behind that of its first token.
     ensures behind { IfOk result (λ x. at < x.1) }
     ensures within { IfOk result (λ x. x.1 ≤ length tokens.now) }

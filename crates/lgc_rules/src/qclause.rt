@@ -4,7 +4,7 @@ ghost use Rattle.lgc_values.specs.Values.{IsSize};
 ghost use Rattle.lgc_lexer.specs.Spans.{AllIn};
 ghost use Rattle.lgc_rules.specs.Spelled.{spelled_all, IsRest, IsShorter};
 ghost use Rattle.lgc_rules.specs.Classes.{starts_quantifier_clause};
-ghost use Rattle.lgc_rules.specs.Words.{onward, last};
+ghost use Rattle.lgc_grammar.specs.Reading.{onward, last};
 ghost use Rattle.lgc_rules.specs.RuleReading.{set_behind_at, next_set_at, more_sets_at, all_sets_at, some_alone_at, no_sets_at, quantifier_clause_at, next_clause_at, more_clauses_at, some_clauses_at, clauses_at};
 ghost use Rattle.lgc_rules.specs.Gives.{Gives};
 
