@@ -27,6 +27,10 @@ place_seen t w e = ap place_of e
 
 -- ---- single classes
 
+-- the class of the token has this place
+abbrev pub is_at_place : ℕ → Spelled → Bool
+is_at_place n t = n == place (class_of t)
+
 -- a token of a word of this class
 at_place : (n : ℕ) (w : Word) → (n == place_of w) ≡ true → (t : Spelled) → word_of t ≡ w → (n == place (class_of t)) ≡ true
 at_place n w h t e = ap (λ m. n == m) (place_seen t w e) ∙ h

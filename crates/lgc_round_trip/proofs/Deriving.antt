@@ -1,14 +1,13 @@
 -- What the grammar derives from tokens of these words, whatever their places are: a lemma for each word of grammars.
-use Rattle.std.proofs.Common.{◌≡◌, Bool, true, false, List, [], ◌∷◌, ◌++◌, refl, sym, ap, subst, inl, inr}
+use Rattle.std.proofs.Common.{◌≡◌, ℕ, Bool, true, false, List, [], ◌∷◌, ◌++◌, Ok, refl, sym, ap, subst, inl, inr}
 use Rattle.std.specs.Prelude.{map}
-use Rattle.lgc_grammar.specs.Grammar.{Grammar, One, Nothing, Mapped, Then, Either}
-use Rattle.lgc_rules.specs.Words.{Right, Growing, ended, grown}
+use Rattle.lgc_grammar.specs.Grammar.{Grammar, One, Allowed, fault_if, Nothing, Mapped, Then, Either, Growing, ended, grown}
 use Rattle.lgc_rules.specs.Spelled.{Spelled}
 use Rattle.lgc_round_trip.proofs.Lexing.{Word, word_of}
 
 -- tokens of these words are a phrase, and a is its tree
 pub record Derives {A : Type 0} (L : Grammar Spelled A) (a : A) (words : List Word) : Type 0 where
-  pub derives : (ts : List Spelled) → map word_of ts ≡ words → L a ts
+  pub derives : (ts : List Spelled) → map word_of ts ≡ words → L (Ok a) ts
 
 -- tokens of words and of others behind them
 pub record Parts (ts : List Spelled) (u v : List Word) : Type 0 where
@@ -50,7 +49,7 @@ derive_then L M a b u v f g = record { derives = λ ts e. let p = parts ts u v e
 pub derive_skip : {B : Type 0} (test : Spelled → Bool) (M : Grammar Spelled B) (b : B) (w : Word) (v : List Word) → ((t : Spelled) → word_of t ≡ w → test t ≡ true) → Derives M b v → Derives (Then (One test) (λ _. M)) b (w ∷ v)
 derive_skip {B} test M b w v passes g = record { derives = by }
   where
-    by : (ts : List Spelled) → map word_of ts ≡ w ∷ v → Then (One test) (λ _. M) b ts
+    by : (ts : List Spelled) → map word_of ts ≡ w ∷ v → Then (One test) (λ _. M) (Ok b) ts
     by [] e = absurd cc
     by (t ∷ ts) e =
         let first : word_of t ≡ w = cc in
@@ -60,7 +59,7 @@ derive_skip {B} test M b w v passes g = record { derives = by }
 pub derive_nothing : {A : Type 0} (a : A) → Derives (Nothing a) a []
 derive_nothing {A} a = record { derives = by }
   where
-    by : (ts : List Spelled) → map word_of ts ≡ [] → Nothing a a ts
+    by : (ts : List Spelled) → map word_of ts ≡ [] → Nothing a (Ok a) ts
     by [] e = (refl, refl)
     by (t ∷ ts) e = absurd cc
 
@@ -71,9 +70,9 @@ derive_mapped f L a u g = record { derives = λ ts e. (a, refl, g.derives ts e) 
 pub derive_one : {B : Type 0} (f : Spelled → B) (test : Spelled → Bool) (b : B) (w : Word) → ((t : Spelled) → word_of t ≡ w → (b ≡ f t) × (test t ≡ true)) → Derives (Mapped f (One test)) b (w ∷ [])
 derive_one f test b w right = record { derives = λ ts e. let s = single ts w e in let (is, passes) = right s.token s.of_token in (s.token, is, (passes, s.split)) }
 
--- the same for a token that keeps a rule
-pub derive_right : {B : Type 0} (f : Spelled → B) (test breaks : Spelled → Bool) (b : B) (w : Word) → ((t : Spelled) → word_of t ≡ w → (b ≡ f t) × (test t ≡ true) × (breaks t ≡ false)) → Derives (Mapped f (Right test breaks)) b (w ∷ [])
-derive_right f test breaks b w right = record { derives = λ ts e. let s = single ts w e in let (is, passes, keeps) = right s.token s.of_token in (s.token, is, (keeps, (passes, s.split))) }
+-- the same for a token that may break a rule, but keeps it
+pub derive_allowed : {B : Type 0} (f : Spelled → B) (test breaks : Spelled → Bool) (number : ℕ) (b : B) (w : Word) → ((t : Spelled) → word_of t ≡ w → (b ≡ f t) × (test t ≡ true) × (breaks t ≡ false)) → Derives (Mapped f (Allowed test (λ t. fault_if (breaks t) number))) b (w ∷ [])
+derive_allowed f test breaks number b w right = record { derives = λ ts e. let s = single ts w e in let (is, passes, keeps) = right s.token s.of_token in (s.token, is, (passes, ap (λ c. fault_if c number) keeps, s.split)) }
 
 pub derive_left : {A : Type 0} (L M : Grammar Spelled A) (a : A) (u : List Word) → Derives L a u → Derives (Either L M) a u
 derive_left L M a u f = record { derives = λ ts e. inl (f.derives ts e) }
@@ -86,12 +85,12 @@ derive_other L M a u f = record { derives = λ ts e. inr (f.derives ts e) }
 pub derive_ended : {A : Type 0} (L : A → Grammar Spelled A) (a : A) → Derives (Growing L a) a []
 derive_ended {A} L a = record { derives = by }
   where
-    by : (ts : List Spelled) → map word_of ts ≡ [] → Growing L a a ts
+    by : (ts : List Spelled) → map word_of ts ≡ [] → Growing L a (Ok a) ts
     by [] e = ended a
     by (t ∷ ts) e = absurd cc
 
 pub derive_grown : {A : Type 0} (L : A → Grammar Spelled A) (a b c : A) (u v : List Word) → Derives (L a) b u → Derives (Growing L b) c v → Derives (Growing L a) c (u ++ v)
-derive_grown L a b c u v f g = record { derives = λ ts e. let p = parts ts u v e in subst (λ s. Growing L a c s) (sym p.split) (grown a b c p.front p.back (f.derives p.front p.of_front) (g.derives p.back p.of_back)) }
+derive_grown L a b c u v f g = record { derives = λ ts e. let p = parts ts u v e in subst (λ s. Growing L a (Ok c) s) (sym p.split) (grown a b (Ok c) p.front p.back (f.derives p.front p.of_front) (g.derives p.back p.of_back)) }
 
 -- ---- other words for the same
 

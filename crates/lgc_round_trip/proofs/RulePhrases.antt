@@ -4,7 +4,7 @@ use Rattle.std.specs.Prelude.{All, map, codes, drop, unwrap_or, ◌≢◌}
 use Rattle.std.specs.List.{AllByRecursion}
 use Rattle.std.proofs.lemmas.List.Elements.{All-head, All-tail}
 use Rattle.std.proofs.lemmas.Option.{slice_get-get_or}
-use Rattle.lgc_grammar.specs.Grammar.{Grammar, Nothing, Either}
+use Rattle.lgc_grammar.specs.Grammar.{Grammar, One, Nothing, Then, Either, Growing}
 use Rattle.lgc_values.specs.declared.matrix.Operator.{Operator}
 use Rattle.lgc_values.specs.declared.matrix.Quantifier.{Quantifier}
 use Rattle.lgc_values.specs.Logic.{Logic, IsLogic, IsOperator, IsQuantifier, operator_at, quantifier_at}
@@ -13,8 +13,8 @@ use Rattle.lgc_clauses.specs.declared.rule.Rule.{Rule}
 use Rattle.lgc_clauses.specs.declared.rule.Rule.TheVariants as rule
 use Rattle.lgc_clauses.specs.Kinds.{plain_rule}
 use Rattle.lgc_print.specs.Text.{joined, calculus_text}
+use Rattle.lgc_syntax.specs.declared.fault.TheConstants.{UNKNOWN_NAME, WRONG_ARITY, MISNUMBERED}
 use Rattle.lgc_rules.specs.declared.rule.Numbered.{Numbered}
-use Rattle.lgc_rules.specs.Words.{Growing}
 use Rattle.lgc_rules.specs.Spelled.{Spelled, spelled_all}
 use Rattle.lgc_rules.specs.Classes.{is_name, is_number}
 use Rattle.lgc_rules.specs.Names.{operator_of, quantifier_of, names_no_operator, names_no_quantifier}
@@ -23,10 +23,10 @@ use Rattle.lgc_rules.specs.RuleFile.{IsFileOf}
 use Rattle.lgc_round_trip.specs.RoundTrip.{IsSet, HasSets, IsTextOf}
 use Rattle.lgc_round_trip.proofs.Lexing.{Word, lexes_whole}
 use Rattle.lgc_round_trip.proofs.Pieces.{plain, sign}
-use Rattle.lgc_round_trip.proofs.Deriving.{Derives, derive_then, derive_skip, derive_nothing, derive_mapped, derive_right, derive_left, derive_other, derive_ended, derive_grown, derive_words, derive_tree}
+use Rattle.lgc_round_trip.proofs.Deriving.{Derives, derive_then, derive_skip, derive_nothing, derive_mapped, derive_allowed, derive_left, derive_other, derive_ended, derive_grown, derive_words, derive_tree}
 use Rattle.lgc_round_trip.proofs.Printing.{numeral, symbol_word}
 use Rattle.lgc_round_trip.proofs.Texts.{AreBelow, AreSetsBelow, IsHeadPrintable, IsClausePrintable, IsPrintable, ArePrintable, set_words, operator_clause_words, quantifier_clause_words, head_words, body_words, rule_words, rules_words, calculus_lexes}
-use Rattle.lgc_round_trip.proofs.Classes.{is_rule, is_at, is_operator, is_quantifier, is_open_square, is_close_square, is_dot, is_colon, is_slash, numeral_passes, symbol_passes, symbol_says}
+use Rattle.lgc_round_trip.proofs.Classes.{is_at_place, is_rule, is_at, is_operator, is_quantifier, is_open_square, is_close_square, is_dot, is_colon, is_slash, numeral_passes, symbol_passes, symbol_says}
 use Rattle.lgc_round_trip.proofs.Lookups.{operator_told, quantifier_told}
 use Rattle.lgc_round_trip.proofs.SetPhrases.{set_below, set_derives}
 use Rattle.lgc_round_trip.proofs.ClausePhrases.{number_derives, clause_derives, quantifier_clause_derives, clauses_derive}
@@ -59,16 +59,16 @@ module _ (n : ℕ) (logic : Logic) (is : IsLogic logic) (size : length logic.nam
       let arity = (operator_at logic op).arity in
       let name = (operator_at logic op).name in
       derive_skip _ _ op (plain (codes "operator") false) (symbol_word name ∷ sign 47 ∷ numeral arity false ∷ []) is_operator
-      (derive_then _ _ op op (symbol_word name ∷ []) (sign 47 ∷ numeral arity false ∷ [])
-      (derive_right (operator_of logic) is_name (names_no_operator logic) op (symbol_word name) (λ t e. let (tree, known) = operator_told logic is op t lt (symbol_says name t e) in (tree, symbol_passes name t e, known)))
+      (derive_then _ (λ x. Then (One (is_at_place 24)) (λ _. Then (NumberFrom (operator_at logic x).arity (operator_at logic x).arity WRONG_ARITY is_number) (λ _. Nothing x))) op op (symbol_word name ∷ []) (sign 47 ∷ numeral arity false ∷ [])
+      (derive_allowed (operator_of logic) is_name (names_no_operator logic) UNKNOWN_NAME op (symbol_word name) (λ t e. let (tree, known) = operator_told logic is op t lt (symbol_says name t e) in (tree, symbol_passes name t e, known)))
       (derive_skip _ _ op (sign 47) (numeral arity false ∷ []) is_slash
-      (derive_then (NumberFrom arity arity is_number) (λ _. Nothing op) arity op (numeral arity false ∷ []) [] (number_derives arity arity arity false is_number (arity_small op lt) (omega arith) (omega arith) (numeral_passes arity false (arity_small op lt))) (derive_nothing op))))
+      (derive_then (NumberFrom arity arity WRONG_ARITY is_number) (λ _. Nothing op) arity op (numeral arity false ∷ []) [] (number_derives arity arity WRONG_ARITY arity false is_number (arity_small op lt) (omega arith) (omega arith) (numeral_passes arity false (arity_small op lt))) (derive_nothing op))))
 
   quantifier_head_derives : (q : ℕ) → q < length logic.quantifiers → Derives (QuantifierHead logic) q (head_words logic (quantifier q))
   quantifier_head_derives q lt =
       let name = (quantifier_at logic q).name in
       derive_skip _ _ q (plain (codes "quantifier") false) (symbol_word name ∷ []) is_quantifier
-      (derive_right (quantifier_of logic) is_name (names_no_quantifier logic) q (symbol_word name) (λ t e. let (tree, known) = quantifier_told logic is q t lt (symbol_says name t e) in (tree, symbol_passes name t e, known)))
+      (derive_allowed (quantifier_of logic) is_name (names_no_quantifier logic) UNKNOWN_NAME q (symbol_word name) (λ t e. let (tree, known) = quantifier_told logic is q t lt (symbol_says name t e) in (tree, symbol_passes name t e, known)))
 
   -- ---- rules
 
@@ -93,15 +93,22 @@ module _ (n : ℕ) (logic : Logic) (is : IsLogic logic) (size : length logic.nam
   quantifier_clause_good q [] ((some, members), are) = absurd (omega arith)
   quantifier_clause_good q (some ∷ all) ((has, members), are) = quantifier_clause_derives n logic is size some all (good_members all members) (good_sets (some ∷ all) are)
 
+  -- what stands in a body behind its clauses, and behind its sign
+  abbrev body_end : Rule n → Grammar Spelled (Rule n)
+  body_end rule = Then (One (is_at_place 19)) (λ _. Then (One (is_at_place 21)) (λ _. Nothing rule))
+
+  abbrev behind_sign : Grammar Spelled (List (List ℕ)) → (List ℕ → List (List (List ℕ)) → Rule n) → List ℕ → Grammar Spelled (Rule n)
+  behind_sign L rule_of sign = Then (One (is_at_place 22)) (λ _. Then (One (is_at_place 18)) (λ _. Then (Clauses L) (λ clauses. body_end (rule_of sign clauses))))
+
   body_derives : (L : Grammar Spelled (List (List ℕ))) (words : List (List ℕ) → List Word) (Q : List (List ℕ) → Type 0) → ((sets : List (List ℕ)) → Q sets → Derives L sets (words sets)) → (rule_of : List ℕ → List (List (List ℕ)) → Rule n) (set : List ℕ) (clauses : List (List (List ℕ))) → set ≢ [] → IsSet n set → AllByRecursion Q clauses → Derives (Body n logic L rule_of) (rule_of set clauses) (plain (codes "at") false ∷ (set_words logic.names set ++ (sign 58 ∷ sign 91 ∷ (joined (sign 59 ∷ []) (map words clauses) ++ sign 93 ∷ sign 46 ∷ []))))
   body_derives L words Q each rule_of set clauses some set-is good =
       let tree : Rule n = rule_of set clauses in
       let inside = joined (sign 59 ∷ []) (map words clauses) in
       derive_skip _ _ tree (plain (codes "at") false) (set_words logic.names set ++ (sign 58 ∷ sign 91 ∷ (inside ++ sign 93 ∷ sign 46 ∷ []))) is_at
-      (derive_then (Set n logic) _ set tree (set_words logic.names set) (sign 58 ∷ sign 91 ∷ (inside ++ sign 93 ∷ sign 46 ∷ [])) (set_derives n logic is size set some set-is)
+      (derive_then (Set n logic) (behind_sign L rule_of) set tree (set_words logic.names set) (sign 58 ∷ sign 91 ∷ (inside ++ sign 93 ∷ sign 46 ∷ [])) (set_derives n logic is size set some set-is)
       (derive_skip _ _ tree (sign 58) (sign 91 ∷ (inside ++ sign 93 ∷ sign 46 ∷ [])) is_colon
       (derive_skip _ _ tree (sign 91) (inside ++ sign 93 ∷ sign 46 ∷ []) is_open_square
-      (derive_then (Clauses L) _ clauses tree inside (sign 93 ∷ sign 46 ∷ []) (clauses_derive L words Q each clauses good)
+      (derive_then (Clauses L) (λ x. body_end (rule_of set x)) clauses tree inside (sign 93 ∷ sign 46 ∷ []) (clauses_derive L words Q each clauses good)
       (derive_skip _ _ tree (sign 93) (sign 46 ∷ []) is_close_square
       (derive_skip _ (Nothing tree) tree (sign 46) [] is_dot (derive_nothing tree)))))))
 
@@ -115,15 +122,21 @@ module _ (n : ℕ) (logic : Logic) (is : IsLogic logic) (size : length logic.nam
       (derive_then (QuantifierHead logic) (λ q. Body n logic (QuantifierClause n logic) (quantifier_rule n q)) r.quant (rule.Quantifier r) (head_words logic (quantifier r.quant)) (body_words logic.names (of_quantifier r)) (quantifier_head_derives r.quant fits.known)
       (body_derives (QuantifierClause n logic) (quantifier_clause_words logic.names) (IsGood (quantifier r.quant)) (quantifier_clause_good r.quant) (quantifier_rule n r.quant) r.sign r.clauses sets.some sets.sign (both_good (quantifier r.quant) r.clauses fits.formed sets.clauses)))
 
+  abbrev of_symbol : Grammar Spelled (Rule n)
+  of_symbol = Either (OfOperator n logic) (OfQuantifier n logic)
+
+  abbrev numbered : ℕ → Rule n → Numbered n
+  numbered k x = record { number = k; rule = x }
+
   rule_derives : (k : ℕ) (x : Rule n) → k < 2 ^ 32 → Fits logic (plain_rule x) → HasSets n (plain_rule x) → Derives (OneRule n logic k k) (record { number = k; rule = x }) (rule_words logic k (plain_rule x))
   rule_derives k x small fits sets =
       let tree : Numbered n = record { number = k; rule = x } in
       let words = head_words logic (plain_rule x).head ++ body_words logic.names (plain_rule x) in
       derive_skip _ _ tree (plain (codes "rule") false) (numeral k false ∷ sign 58 ∷ words) is_rule
-      (derive_then (NumberFrom k k is_number) _ k tree (numeral k false ∷ []) (sign 58 ∷ words) (number_derives k k k false is_number small (omega arith) (omega arith) (numeral_passes k false small))
+      (derive_then (NumberFrom k k MISNUMBERED is_number) (λ m. Then (One (is_at_place 22)) (λ _. Then of_symbol (λ y. Nothing (numbered m y)))) k tree (numeral k false ∷ []) (sign 58 ∷ words) (number_derives k k MISNUMBERED k false is_number small (omega arith) (omega arith) (numeral_passes k false small))
       (derive_skip _ _ tree (sign 58) words is_colon
       (derive_words _ tree (words ++ []) words (append-nil words)
-      (derive_then (Either (OfOperator n logic) (OfQuantifier n logic)) _ x tree words [] (of_symbol_derives x fits sets) (derive_nothing tree)))))
+      (derive_then of_symbol (λ y. Nothing (numbered k y)) x tree words [] (of_symbol_derives x fits sets) (derive_nothing tree)))))
 
   more_rules : (done rest : List (Rule n)) (k : ℕ) → k ≡ length done + 1 → length done + length rest < 2 ^ 32 → All (λ x. Fits logic (plain_rule x)) rest → All (λ x. HasSets n (plain_rule x)) rest → Derives (Growing (NextRule n logic) done) (done ++ rest) (rules_words logic k (map plain_rule rest))
   more_rules done [] k at few fits sets = derive_tree (Growing (NextRule n logic) done) done (done ++ []) [] (sym (append-nil done)) (derive_ended (NextRule n logic) done)

@@ -4,21 +4,22 @@ use Rattle.std.specs.Prelude.{◌&&◌, ◌||◌, ◌==◌, filter, map}
 use Rattle.std.specs.List.{flat_map, range_with_len}
 use Rattle.std.proofs.lemmas.Bool.Decides.{nat_tests}
 use Rattle.std.proofs.lemmas.Bool.{lt-ltb}
-use Rattle.lgc_grammar.specs.Grammar.{Nothing, Then}
+use Rattle.lgc_grammar.specs.Grammar.{Grammar, One, Nothing, Then, Growing}
 use Rattle.lgc_values.specs.Values.{has}
 use Rattle.lgc_values.specs.Logic.{Logic, IsLogic}
 use Rattle.lgc_values.proofs.ValueLaws.{has-values_where, values_where-alike}
-use Rattle.lgc_rules.specs.Words.{Growing}
+use Rattle.lgc_syntax.specs.declared.fault.TheConstants.{UNKNOWN_VALUE}
+use Rattle.lgc_rules.specs.Spelled.{Spelled}
 use Rattle.lgc_rules.specs.Classes.{is_value}
 use Rattle.lgc_rules.specs.Names.{value_of, names_no_value, with_value}
 use Rattle.lgc_rules.specs.RuleGrammar.{Value, NextValue, Set}
 use Rattle.lgc_round_trip.specs.RoundTrip.{IsSet}
 use Rattle.lgc_round_trip.proofs.Lexing.{Word}
 use Rattle.lgc_round_trip.proofs.Pieces.{sign}
-use Rattle.lgc_round_trip.proofs.Deriving.{Derives, derive_then, derive_skip, derive_nothing, derive_right, derive_ended, derive_grown, derive_tree}
+use Rattle.lgc_round_trip.proofs.Deriving.{Derives, derive_then, derive_skip, derive_nothing, derive_allowed, derive_ended, derive_grown, derive_tree}
 use Rattle.lgc_round_trip.proofs.Printing.{value_word}
 use Rattle.lgc_round_trip.proofs.Texts.{AreBelow, name_of, set_words}
-use Rattle.lgc_round_trip.proofs.Classes.{is_comma, is_open_brace, is_close_brace, value_passes, value_says}
+use Rattle.lgc_round_trip.proofs.Classes.{is_at_place, is_comma, is_open_brace, is_close_brace, value_passes, value_says}
 use Rattle.lgc_round_trip.proofs.Lookups.{value_told}
 
 -- ---- sets
@@ -48,7 +49,7 @@ module _ (n : ℕ) (logic : Logic) (is : IsLogic logic) (size : length logic.nam
   more_words set = flat_map (λ p. (sign 44 ∷ []) ++ p) (map (λ v. value_word (name_of logic.names v) ∷ []) set)
 
   value_derives : (v : ℕ) → v < n → Derives (Value logic) v (value_word (name_of logic.names v) ∷ [])
-  value_derives v lt = derive_right (value_of logic) is_value (names_no_value logic) v (value_word (name_of logic.names v)) (λ t e. let (tree, known) = value_told logic is v t (omega arith) (value_says (name_of logic.names v) t e) in (tree, value_passes (name_of logic.names v) t e, known))
+  value_derives v lt = derive_allowed (value_of logic) is_value (names_no_value logic) UNKNOWN_VALUE v (value_word (name_of logic.names v)) (λ t e. let (tree, known) = value_told logic is v t (omega arith) (value_says (name_of logic.names v) t e) in (tree, value_passes (name_of logic.names v) t e, known))
 
   next_value_derives : (set : List ℕ) (v : ℕ) → v < n → Derives (NextValue n logic set) (with_value n set v) (sign 44 ∷ value_word (name_of logic.names v) ∷ [])
   next_value_derives set v lt =
@@ -73,11 +74,18 @@ module _ (n : ℕ) (logic : Logic) (is : IsLogic logic) (size : length logic.nam
       whole_more : vs ≡ [] → with_value n a v ≡ done ++ v ∷ []
       whole_more e = values_where-alike n (λ x. has a x || x == v) (has (done ++ v ∷ [])) same_test ∙ sym (subst (λ s. IsSet n (done ++ v ∷ s)) e set)
 
+  -- what stands behind the values of a set, and behind the first of them
+  abbrev closed : List ℕ → Grammar Spelled (List ℕ)
+  closed set = Then (One (is_at_place 17)) (λ _. Nothing set)
+
+  abbrev behind_first : ℕ → Grammar Spelled (List ℕ)
+  behind_first value = Then (Growing (NextValue n logic) (value ∷ [])) closed
+
   pub set_derives : (set : List ℕ) → set ≢ [] → IsSet n set → Derives (Set n logic) set (set_words logic.names set)
   set_derives [] some set = absurd (some refl)
   set_derives (v ∷ vs) some set =
       let below = set_below n (v ∷ vs) set in
       derive_skip _ _ (v ∷ vs) (sign 123) _ is_open_brace
-      (derive_then (Value logic) _ v (v ∷ vs) (value_word (name_of logic.names v) ∷ []) (more_words vs ++ sign 125 ∷ []) (value_derives v below.0)
-      (derive_then (Growing (NextValue n logic) (v ∷ [])) _ (v ∷ vs) (v ∷ vs) (more_words vs) (sign 125 ∷ []) (more_values (v ∷ []) (v ∷ []) vs below.1 (λ w lt. refl) (λ e. refl) set)
+      (derive_then (Value logic) behind_first v (v ∷ vs) (value_word (name_of logic.names v) ∷ []) (more_words vs ++ sign 125 ∷ []) (value_derives v below.0)
+      (derive_then (Growing (NextValue n logic) (v ∷ [])) closed (v ∷ vs) (v ∷ vs) (more_words vs) (sign 125 ∷ []) (more_values (v ∷ []) (v ∷ []) vs below.1 (λ w lt. refl) (λ e. refl) set)
       (derive_skip _ (Nothing (v ∷ vs)) (v ∷ vs) (sign 125) [] is_close_brace (derive_nothing (v ∷ vs)))))

@@ -23,4 +23,4 @@ pub record HasSets (n : ℕ) (rule : PlainRule) : Type 0 where
 pub record IsTextOf (n : ℕ) (logic : Logic) (bytes : List ℕ) (rules : List (Rule n)) : Type 0 where
   pub tokens : List Token
   pub lexed : tokens_of bytes ≡ Ok tokens
-  pub derived : Rules n logic rules (spelled_all bytes tokens)
+  pub derived : Rules n logic (Ok rules) (spelled_all bytes tokens)
