@@ -24,21 +24,21 @@ module _ (run : Run) where
   prints_calculus file ended ends command is = from (subst (Ends run) is ends) where
     from : Ends run Done → PrintsCalculus run file
     from (text, answers, (takes, same)) =
-        let (spec, asked, calculus) = subst (λ found. WordsAnswer found run.files run.files_after Done text) command answers in
+        let (kept, (spec, asked, calculus)) = subst (λ found. WordsAnswer found run.files run.files_after Done text) command answers in
         record { spec = spec; asked = asked; text = text; calculus = calculus; printed = takes }
 
   pub prints_right : (file rules : List ℕ) (ended : Status) → Ends run ended → command_of run.words ≡ Some (Verify file rules) → ended ≡ Done → PrintsVerdicts run file rules true
   prints_right file rules ended ends command is = from (subst (Ends run) is ends) where
     from : Ends run Done → PrintsVerdicts run file rules true
     from (text, answers, (takes, same)) =
-        let (spec, bytes, asked, verdicts) = subst (λ found. WordsAnswer found run.files run.files_after Done text) command answers in
+        let (kept, (spec, bytes, asked, verdicts)) = subst (λ found. WordsAnswer found run.files run.files_after Done text) command answers in
         record { spec = spec; bytes = bytes; asked = asked; text = text; verdicts = verdicts; printed = takes }
 
   pub prints_rejected : (file rules : List ℕ) (ended : Status) → Ends run ended → command_of run.words ≡ Some (Verify file rules) → ended ≡ Rejected → PrintsVerdicts run file rules false
   prints_rejected file rules ended ends command is = from (subst (Ends run) is ends) where
     from : Ends run Rejected → PrintsVerdicts run file rules false
     from (text, answers, (takes, same)) =
-        let (spec, bytes, asked, verdicts) = subst (λ found. WordsAnswer found run.files run.files_after Rejected text) command answers in
+        let (kept, (spec, bytes, asked, verdicts)) = subst (λ found. WordsAnswer found run.files run.files_after Rejected text) command answers in
         record { spec = spec; bytes = bytes; asked = asked; text = text; verdicts = verdicts; printed = takes }
 
 abbrev told_fault : (n number offset : ℕ) → Result (List (Rule n)) InputFault
@@ -51,6 +51,6 @@ long_rules logic bytes long =
     record { grammar = rw is refl; exact = rw is refl }
 
 -- the lines on rules answer the words, under the status by whether all rules are right
-pub lines_answer : (file rules : List ℕ) (files files_after : FilesState) (spec : Spec) (bytes text : List ℕ) (right : Bool) (status : Status) → status ≡ verdict_status right → HasInput (Verify file rules) files spec bytes → IsVerdictText (logic_of spec) right bytes text → CommandAnswers (Verify file rules) files files_after status text
-lines_answer file rules files files_after spec bytes text true status is asked verdicts = rw is (spec, bytes, asked, verdicts)
-lines_answer file rules files files_after spec bytes text false status is asked verdicts = rw is (spec, bytes, asked, verdicts)
+pub lines_answer : (file rules : List ℕ) (files files_after : FilesState) (spec : Spec) (bytes text : List ℕ) (right : Bool) (status : Status) → files_after ≡ files → status ≡ verdict_status right → HasInput (Verify file rules) files spec bytes → IsVerdictText (logic_of spec) right bytes text → CommandAnswers (Verify file rules) files files_after status text
+lines_answer file rules files files_after spec bytes text true status kept is asked verdicts = rw is (kept, (spec, bytes, asked, verdicts))
+lines_answer file rules files files_after spec bytes text false status kept is asked verdicts = rw is (kept, (spec, bytes, asked, verdicts))

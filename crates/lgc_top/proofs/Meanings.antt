@@ -16,7 +16,7 @@ use Rattle.lgc_rules.specs.RuleFile.{file_read}
 use Rattle.lgc_top.specs.declared.status.Status.{Status}
 use Rattle.lgc_top.specs.declared.status.Status.TheVariants.{Done, Usage, BadSpec, BadInput, Rejected, ReadFault, WriteFault, Memory}
 use Rattle.lgc_top.specs.Commands.{Command, Calculus, Verify, spec_of}
-use Rattle.lgc_top.specs.Run.{Run, Ends, Answers, CommandAnswers, WordsAnswer, Works, Puts, HasInput}
+use Rattle.lgc_top.specs.Run.{Run, Ends, Answers, FilesAnswer, CommandAnswers, WordsAnswer, Works, Puts, HasInput}
 use Rattle.lgc_top.specs.Means.{Tells, RulesMean, SpecMeans, CommandMeans, Means, IsFaultless}
 
 -- what a file that is told holds is one list of bytes
@@ -40,20 +40,20 @@ works_mean (Verify file rules) files Rejected text (spec, bytes, has, verdicts) 
     (has.logic.bytes, Ok spec, has.logic.held, has.logic.given, (bytes, second_held file rules files spec bytes has, rw verdicts.given.exact (λ all. let no : false ≡ true = verdicts.decided.1 all in absurd cc)))
 works_mean (Verify file rules) files _ text h = absurd h
 
-faults_mean : (command : Command) (files files_after : FilesState) (line : List ℕ) → CommandAnswers command files files_after BadInput line → CommandMeans (Holds files) command BadInput
-faults_mean (Calculus file) files files_after line (spec, bytes, has, fault) = absurd fault.given
-faults_mean (Verify file rules) files files_after line (spec, bytes, has, fault) =
+faults_mean : (command : Command) (files : FilesState) (line : List ℕ) → FilesAnswer command files BadInput line → CommandMeans (Holds files) command BadInput
+faults_mean (Calculus file) files line (spec, bytes, has, fault) = absurd fault.given
+faults_mean (Verify file rules) files line (spec, bytes, has, fault) =
     (has.logic.bytes, Ok spec, has.logic.held, has.logic.given, (bytes, second_held file rules files spec bytes has, rw fault.given.exact refl))
 
 answers_mean : (command : Command) (files files_after : FilesState) (status : Status) (bytes : List ℕ) → CommandAnswers command files files_after status bytes → (status ≡ ReadFault → ⊥) → CommandMeans (Holds files) command status
 answers_mean command files files_after ReadFault line h other = absurd (other refl)
-answers_mean command files files_after BadSpec line (bytes, held, fault) other = (bytes, Err (Fault fault.number fault.offset fault.kept), held, fault.given, refl)
-answers_mean command files files_after BadInput line h other = faults_mean command files files_after line h
-answers_mean command files files_after Done text h other = works_mean command files Done text h
-answers_mean command files files_after Rejected text h other = works_mean command files Rejected text h
-answers_mean command files files_after Usage text h other = works_mean command files Usage text h
-answers_mean command files files_after WriteFault text h other = works_mean command files WriteFault text h
-answers_mean command files files_after Memory text h other = works_mean command files Memory text h
+answers_mean command files files_after BadSpec line (same, (bytes, held, fault)) other = (bytes, Err (Fault fault.number fault.offset fault.kept), held, fault.given, refl)
+answers_mean command files files_after BadInput line (same, h) other = faults_mean command files line h
+answers_mean command files files_after Done text (same, h) other = works_mean command files Done text h
+answers_mean command files files_after Rejected text (same, h) other = works_mean command files Rejected text h
+answers_mean command files files_after Usage text (same, h) other = works_mean command files Usage text h
+answers_mean command files files_after WriteFault text (same, h) other = works_mean command files WriteFault text h
+answers_mean command files files_after Memory text (same, h) other = works_mean command files Memory text h
 
 -- ---- one status is meant
 

@@ -78,16 +78,20 @@ Works (Verify file rules) files Done text = (spec : Spec) × (bytes : List ℕ) 
 Works (Verify file rules) files Rejected text = (spec : Spec) × (bytes : List ℕ) × HasInput (Verify file rules) files spec bytes × IsVerdictText (logic_of spec) false bytes text
 Works command files status text = ⊥
 
--- each status of a command with its cause, and with the bytes that are put under it
+-- each status that comes of what the files hold, with its cause, and with the bytes that are put under it
+abbrev pub FilesAnswer : Command → FilesState → Status → List ℕ → Type 0
+FilesAnswer command files BadSpec line = (bytes : List ℕ) × Holds files (spec_of command) bytes × IsFaultOf bytes line
+FilesAnswer command files BadInput line = (spec : Spec) × (bytes : List ℕ) × HasInput command files spec bytes × IsInputFaultOf command (logic_of spec) bytes line
+FilesAnswer command files status text = Works command files status text
+
+-- The same, or the read of a file failed. Under every other status the files are as they were.
 abbrev pub CommandAnswers : Command → FilesState → FilesState → Status → List ℕ → Type 0
 CommandAnswers command files files_after ReadFault line = (file : List ℕ) × IsRead command files file × FailsAt files files_after file × (line ≡ read_line file)
-CommandAnswers command files files_after BadSpec line = (bytes : List ℕ) × Holds files (spec_of command) bytes × IsFaultOf bytes line
-CommandAnswers command files files_after BadInput line = (spec : Spec) × (bytes : List ℕ) × HasInput command files spec bytes × IsInputFaultOf command (logic_of spec) bytes line
-CommandAnswers command files files_after status text = Works command files status text
+CommandAnswers command files files_after status bytes = (files_after ≡ files) × FilesAnswer command files status bytes
 
 -- the same for words that may be no command
 abbrev pub WordsAnswer : Option Command → FilesState → FilesState → Status → List ℕ → Type 0
-WordsAnswer None files files_after Usage line = line ≡ codes "usage: multlog COMMAND ARGUMENTS\n"
+WordsAnswer None files files_after Usage line = (files_after ≡ files) × (line ≡ codes "usage: multlog COMMAND ARGUMENTS\n")
 WordsAnswer None files files_after status line = ⊥
 WordsAnswer (Some command) files files_after status bytes = CommandAnswers command files files_after status bytes
 

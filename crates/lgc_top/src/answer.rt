@@ -82,7 +82,7 @@ fn read<F: Files>(
 
 // The logic of the bytes of a specification.
 fn spec_in(alloc: Global, bytes: &[u8]) -> Result<Spec, Stop>
-    ensures spec { (command : commands.Command) (files files_after : FilesState) → Holds files (spec_of command) bytes.now →
+    ensures spec { (command : commands.Command) (files files_after : FilesState) → files_after ≡ files → Holds files (spec_of command) bytes.now →
         MatchResult result (λ spec. HasSpec command files spec) (Stops (Some command) files files_after) }
     ensures logic { IfOk result (λ spec. IsLogic (logic_of spec)) }
     ensures designated { IfOk result (λ spec. spec.designated < 2 ^ length spec.values) }
@@ -127,9 +127,10 @@ fn read_second<F: Files>(
     name: &str,
     limit: u32,
 ) -> Result<Vec<u8>, Stop>
-    ensures { (command : commands.Command) (spec : Spec) → input_of command ≡ Some name.now → HasSpec command (F.state files.old) spec →
+    ensures input { (command : commands.Command) (spec : Spec) → input_of command ≡ Some name.now → HasSpec command (F.state files.old) spec →
         ((bytes : List ℕ) → limit < length bytes → HasInputFault command (logic_of spec) bytes FILE_TOO_LONG limit) →
         MatchResult result (λ bytes. HasInput command (F.state files.old) spec bytes.items) (Stops (Some command) (F.state files.old) (F.state files.new)) }
+    ensures kept { IfOk result (λ _. F.state files.new ≡ F.state files.old) }
 {
     match read(alloc, files, name, limit as usize) {
         Ok(Some(bytes)) => Ok(bytes),
@@ -143,7 +144,7 @@ fn read_second<F: Files>(
 fn printed(alloc: Global, spec: &Spec) -> Result<Answer, Stop>
     requires logic { IsLogic (logic_of spec.now) }
     requires designated { spec.now.designated < 2 ^ length spec.now.values }
-    ensures { (file : List ℕ) (files files_after : FilesState) → HasSpec (Calculus file) files spec.now →
+    ensures { (file : List ℕ) (files files_after : FilesState) → files_after ≡ files → HasSpec (Calculus file) files spec.now →
         Answered (Some (Calculus file)) files files_after result }
 {
     match calculus_of(alloc, spec) {
@@ -177,7 +178,7 @@ fn verdict_status(all_right: bool) -> Status
 fn verdicts(alloc: Global, spec: &Spec, bytes: &[u8]) -> Result<Answer, Stop>
     requires logic { IsLogic (logic_of spec.now) }
     requires designated { spec.now.designated < 2 ^ length spec.now.values }
-    ensures { (file rules : List ℕ) (files files_after : FilesState) → HasInput (Verify file rules) files spec.now bytes.now →
+    ensures { (file rules : List ℕ) (files files_after : FilesState) → files_after ≡ files → HasInput (Verify file rules) files spec.now bytes.now →
         Answered (Some (Verify file rules)) files files_after result }
 {
     match verdicts_of(alloc, spec, bytes) {
@@ -218,7 +219,7 @@ fn verify<F: Files>(alloc: Global, files: &mut F, name: &str, rules: &str) -> Re
 }
 
 fn usage(alloc: Global) -> Result<Answer, Stop>
-    ensures { (files files_after : FilesState) → Answered None files files_after result }
+    ensures { (files : FilesState) → Answered None files files result }
 {
     match Vec::from_slice(alloc, b"usage: multlog COMMAND ARGUMENTS\n") {
         Ok(bytes) => Ok(Answer {

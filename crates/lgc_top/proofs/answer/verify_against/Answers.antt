@@ -5,4 +5,4 @@ use Rattle.lgc_top.proofs.Endings.{long_rules}
 use Rattle.lgc_top.proofs.answer.verify_against.Goals as goal
 
 pub returns-in-Err : goal.returns-in-Err
-returns-in-Err g c file has = c.in-Err.ensures (Verify file c.args.rules.now) c.args.spec.now refl has (long_rules (logic_of c.args.spec.now))
+returns-in-Err g c file has = c.in-Err.ensures.input (Verify file c.args.rules.now) c.args.spec.now refl has (long_rules (logic_of c.args.spec.now))
