@@ -1,9 +1,11 @@
--- The order in which the sets of a clause are asked.
+-- The order in which the sets of a clause are asked, and their numbers.
 use Rattle.std.proofs.Common.{◌≡◌, ℕ, zero, suc, ◌+◌, ◌-◌, ◌%◌, ◌<◌, ◌≤◌, refl, ◌∙◌, arith, ⊎_elim}
+use Rattle.std.specs.Prelude.{◌^◌, List, [], length}
 use Rattle.std.proofs.lemmas.Bool.{cases_eq}
+use Rattle.std.proofs.lemmas.List.Elements.{All-get_or}
 use Rattle.std.proofs.Math.Nat.{mod_self, mod-eq_of_lt}
-use Rattle.lgc_clauses.specs.Rules.{Head, operator, quantifier}
-use Rattle.lgc_clauses.specs.Irredundance.{ComesBefore, set_asked}
+use Rattle.lgc_clauses.specs.Rules.{Head, operator, quantifier, PlainRule}
+use Rattle.lgc_clauses.specs.Irredundance.{clause_at, ComesBefore, set_asked, set_number, IsNumbered}
 
 -- the places of the sets of a quantifier's clause
 last_place : (q count place : ℕ) → place + 1 ≡ count → set_asked (quantifier q) count place ≡ 0
@@ -27,3 +29,15 @@ asked_before (quantifier q) count place k lt lt' before = ⊎_elim
     let both : (1 ≤ k) × (k ≤ place) = rw (earlier_place q count place (omega arith)) at before in
     (k - 1, omega (arith, both.0, both.1), earlier_place q count (k - 1) (omega (arith, both.0)) ∙ omega (arith, both.0)))
     (cases_eq (place + 1) count)
+
+-- ---- numbers
+
+number_below : (head : Head) (count j : ℕ) → j < count → set_number head (count - 1) < 2 ^ 32 → set_number head j < 2 ^ 32
+number_below (operator op) count j lt last = omega (arith, last)
+number_below (quantifier q) count j lt last = omega (arith, last)
+
+-- each set of a rule whose sets are numbered has a number
+pub numbered_below : (rule : PlainRule) (i j : ℕ) → IsNumbered rule → i < length rule.clauses → j < length (clause_at rule.clauses i) → set_number rule.head j < 2 ^ 32
+numbered_below rule i j numbered clause part =
+    number_below rule.head (length (clause_at rule.clauses i)) j part
+    (All-get_or (λ (sets : List (List ℕ)). set_number rule.head (length sets - 1) < 2 ^ 32) rule.clauses i [] clause numbered.sets)

@@ -87,7 +87,12 @@ abbrev pub IsFirstDroppable : Logic → PlainRule → Droppable → Type 0
 IsFirstDroppable logic rule (Clause i) = (1 ≤ i) × IsFirst (IsRedundantClause logic rule) (i - 1)
 IsFirstDroppable logic rule (Value i part v) = Never (IsRedundantClause logic rule) × (1 ≤ i) × (j : ℕ) × (part ≡ part_of rule.head j) × IsFirstValue logic rule (i - 1) j v
 
+-- the number of set j of a clause: of an argument's set or an `all` set, counted from 1; the `some` set, which stands first, has none
+abbrev pub set_number : Head → ℕ → ℕ
+set_number (operator op) j = j + 1
+set_number (quantifier q) j = j
+
 -- the clauses, and the sets of each, have numbers of 32 bits
 pub record IsNumbered (rule : PlainRule) : Type 0 where
   pub clauses : length rule.clauses < 2 ^ 32
-  pub sets : All (λ sets. length sets < 2 ^ 32) rule.clauses
+  pub sets : All (λ sets. set_number rule.head (length sets - 1) < 2 ^ 32) rule.clauses

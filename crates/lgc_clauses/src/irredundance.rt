@@ -11,7 +11,7 @@ ghost use Rattle.std.specs.List.{remove};
 ghost use Rattle.lgc_clauses.specs.Kinds.{plain_rule};
 ghost use Rattle.lgc_clauses.specs.Rules.{rows_of, all_true_at, Fits};
 ghost use Rattle.lgc_clauses.specs.Exactness.{AgreesBelow, IsExact};
-ghost use Rattle.lgc_clauses.specs.Irredundance.{clause_at, clauses_without, with_clauses, part_of, set_asked, IsNumbered, IsRedundantClause, IsRedundantValue, Never, IsFirst, IsIrredundant, IsFirstOfClause, IsFirstValue, IsFirstDroppable};
+ghost use Rattle.lgc_clauses.specs.Irredundance.{clause_at, clauses_without, with_clauses, part_of, set_asked, set_number, IsNumbered, IsRedundantClause, IsRedundantValue, Never, IsFirst, IsIrredundant, IsFirstOfClause, IsFirstValue, IsFirstDroppable};
 
 use crate::Rule;
 use crate::exactness::{clauses_hold, rule_exact};
@@ -65,7 +65,7 @@ pub fn rule_irredundant<const N: usize>(m: &Matrix<N>, rule: &Rule<N>) -> Option
 
 // What set `j` of a clause, counted from 0, is.
 fn part_of<const N: usize>(rule: &Rule<N>, j: u32) -> Part
-    requires { j + 1 < 2 ^ 32 }
+    requires { set_number (plain_rule rule.now).head j < 2 ^ 32 }
     ensures { result ≡ part_of (plain_rule rule.now).head j }
 {
     match (rule, j) {

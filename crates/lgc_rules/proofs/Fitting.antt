@@ -14,6 +14,7 @@ use Rattle.lgc_values.specs.Values.{has}
 use Rattle.lgc_values.specs.Logic.{Logic, operator_at}
 use Rattle.lgc_values.proofs.ValueLaws.{has-values_where}
 use Rattle.lgc_clauses.specs.Rules.{Head, operator, quantifier, IsClauseOf}
+use Rattle.lgc_clauses.specs.Irredundance.{set_number}
 use Rattle.lgc_clauses.specs.declared.rule.Rule.{Rule}
 use Rattle.lgc_syntax.specs.declared.fault.TheConstants.{UNKNOWN_NAME, WRONG_ARITY, UNKNOWN_VALUE, BAD_ARGUMENT}
 use Rattle.lgc_rules.specs.declared.rule.Numbered.{Numbered}
@@ -204,18 +205,18 @@ clauses_few L clauses ts (inr (is, none)) = omega (arith, ap length is)
 
 -- ---- rules
 
-abbrev IsFew : List (List ℕ) → Type 0
-IsFew sets = length sets < 2 ^ 32
+abbrev IsFew : Head → List (List ℕ) → Type 0
+IsFew head sets = set_number head (length sets - 1) < 2 ^ 32
 
 -- clauses of one head
 abbrev AreFor : Logic → Head → List (List (List ℕ)) → Type 0
-AreFor logic head clauses = All (IsClauseOf logic head) clauses × All IsFew clauses × (length clauses < 2 ^ 32)
+AreFor logic head clauses = All (IsClauseOf logic head) clauses × All (IsFew head) clauses × (length clauses < 2 ^ 32)
 
 abbrev IsFor : Logic → Head → List (List ℕ) → Type 0
-IsFor logic head sets = IsClauseOf logic head sets × IsFew sets
+IsFor logic head sets = IsClauseOf logic head sets × IsFew head sets
 
 are_for : (logic : Logic) (head : Head) (clauses : List (List (List ℕ))) → All (IsFor logic head) clauses → length clauses < 2 ^ 32 → AreFor logic head clauses
-are_for logic head clauses all few = (All-weaker (IsFor logic head) (IsClauseOf logic head) (λ sets h. h.0) clauses all, All-weaker (IsFor logic head) IsFew (λ sets h. h.1) clauses all, few)
+are_for logic head clauses all few = (All-weaker (IsFor logic head) (IsClauseOf logic head) (λ sets h. h.0) clauses all, All-weaker (IsFor logic head) (IsFew head) (λ sets h. h.1) clauses all, few)
 
 module _ (n : ℕ) (logic : Logic) (named : length logic.names ≡ n) where
   body_for : (head : Head) (L : Grammar Spelled (List (List ℕ))) (rule_of : List ℕ → List (List (List ℕ)) → Rule n) (rule : Rule n) (ts : List Spelled) → length ts < 2 ^ 32 → ((sets : List (List ℕ)) (us : List Spelled) → length us ≤ length ts - 1 → L (Ok sets) us → IsFor logic head sets) → Body n logic L rule_of (Ok rule) ts → (sign : List ℕ) × (clauses : List (List (List ℕ))) × (rule ≡ rule_of sign clauses) × AreFor logic head clauses
