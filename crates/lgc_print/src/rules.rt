@@ -1,5 +1,5 @@
 // The printed form of rules.
-ghost use Rattle.std.specs.Prelude.{◌≡◌, ◌++◌, ◌<◌, ◌≤◌, ◌^◌, ◌+◌, length, All, map, OnOk, OnErr, IfOk, codes};
+ghost use Rattle.std.specs.Prelude.{◌≡◌, ◌++◌, ◌<◌, ◌≤◌, ◌^◌, ◌+◌, length, take, All, map, OnOk, OnErr, IfOk, codes};
 ghost use Rattle.std.specs.Fmt.{decimal};
 ghost use Rattle.std.specs.List.{list_all};
 ghost use Rattle.lgc_values.specs.declared.TheConstants.{MOST_ARGUMENTS};
@@ -32,8 +32,25 @@ fn is_lower_word(name: &[u8]) -> bool
     }
 }
 
+// The outcome of what was put behind the first `before` bytes. Where it failed, what was put is taken away.
+fn all_or_nothing(
+    outcome: Result<(), AllocError>,
+    before: usize,
+    into: &mut Vec<u8>,
+) -> Result<(), AllocError>
+    ensures same { result ≡ outcome }
+    ensures put { OnOk result (into.new.items ≡ into.old.items) }
+    ensures failed { OnErr result (into.new.items ≡ take before into.old.items) }
+{
+    if outcome.is_err() {
+        into.truncate(before);
+    }
+    outcome
+}
+
 fn put_quoted(name: &[u8], into: &mut Vec<u8>) -> Result<(), AllocError>
-    ensures { OnOk result (into.new.items ≡ into.old.items ++ quoted name.now) }
+    ensures put { OnOk result (into.new.items ≡ into.old.items ++ quoted name.now) }
+    ensures behind { take (length into.old.items) into.new.items ≡ into.old.items }
 {
     into.push(b'\'')?;
     into.extend_from_slice(name)?;
@@ -41,15 +58,17 @@ fn put_quoted(name: &[u8], into: &mut Vec<u8>) -> Result<(), AllocError>
     Ok(())
 }
 
-/// Puts the name of a truth value. Where memory runs out, a first part of it may have been put.
+/// Puts the name of a truth value. Where memory runs out, `into` is as it was.
 pub fn put_value(name: &[u8], into: &mut Vec<u8>) -> Result<(), AllocError>
-    ensures { OnOk result (into.new.items ≡ into.old.items ++ value_text name.now) }
+    ensures put { OnOk result (into.new.items ≡ into.old.items ++ value_text name.now) }
+    ensures kept { OnErr result (into.new.items ≡ into.old.items) }
 {
     if has_word_bytes(name) {
-        into.extend_from_slice(name)
-    } else {
-        put_quoted(name, into)
+        return into.extend_from_slice(name);
     }
+    let before = into.len();
+    let outcome = put_quoted(name, into);
+    all_or_nothing(outcome, before, into)
 }
 
 fn put_symbol(name: &[u8], into: &mut Vec<u8>) -> Result<(), AllocError>
@@ -71,15 +90,16 @@ pub fn put_number(alloc: Global, number: u32, into: &mut Vec<u8>) -> Result<(), 
     into.extend_from_slice(digits.as_bytes())
 }
 
-/// Puts a set of truth values, whose names are these. Where memory runs out, a first part of it may have been put.
+// Puts a set of truth values. Where memory runs out, a first part of it may have been put.
 #[tactic(auto, using(std::proofs::lemmas::Grind::common_steps, crate::proofs::TextLaws::members_kept, crate::proofs::TextLaws::members_passed, crate::proofs::TextLaws::joined_more, crate::proofs::TextLaws::between_more))]
-pub fn put_set<const N: usize>(
+fn put_members<const N: usize>(
     names: &[Name],
     set: ValueSet<N>,
     into: &mut Vec<u8>,
 ) -> Result<(), AllocError>
     requires { length names.now ≡ N }
-    ensures { OnOk result (into.new.items ≡ into.old.items ++ set_text names.now set.entry) }
+    ensures put { OnOk result (into.new.items ≡ into.old.items ++ set_text names.now set.entry) }
+    ensures behind { take (length into.old.items) into.new.items ≡ into.old.items }
 {
     let mask = set.mask();
     let mut separator: &[u8] = b"";
@@ -93,6 +113,21 @@ pub fn put_set<const N: usize>(
     }
     into.push(b'}')?;
     Ok(())
+}
+
+/// Puts a set of truth values, whose names are these. Where memory runs out, `into` is as it was.
+pub fn put_set<const N: usize>(
+    names: &[Name],
+    set: ValueSet<N>,
+    into: &mut Vec<u8>,
+) -> Result<(), AllocError>
+    requires { length names.now ≡ N }
+    ensures put { OnOk result (into.new.items ≡ into.old.items ++ set_text names.now set.entry) }
+    ensures kept { OnErr result (into.new.items ≡ into.old.items) }
+{
+    let before = into.len();
+    let outcome = put_members(names, set, into);
+    all_or_nothing(outcome, before, into)
 }
 
 #[tactic(auto, unfolding(crate::specs::Text::literal_text))]

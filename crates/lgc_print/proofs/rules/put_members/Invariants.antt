@@ -3,7 +3,7 @@ use Rattle.std.specs.Prelude.{map, slice_index_or, codes}
 use Rattle.lgc_values.specs.Values.{members_of}
 use Rattle.lgc_print.specs.Text.{joined, value_text}
 use Rattle.lgc_print.proofs.TextLaws.{between}
-use Rattle.lgc_print.proofs.rules.put_set.Given as goal
+use Rattle.lgc_print.proofs.rules.put_members.Given as goal
 
 abbrev pub invariant-loop-v : goal.invariant-loop-v
 invariant-loop-v g l = record {
