@@ -2,7 +2,8 @@
 ghost use Rattle.std.specs.Prelude.{◌≡◌, None, [], ◌++◌, ◌≤◌, ◌<◌, length, OnOk, IfSome, IsErrOf, IsOk, IsTrue, Ok, ℕ, List};
 ghost use Rattle.std.specs.Io.KnownBytes.{Appends};
 ghost use Rattle.lgc_io.specs.Sinks.{Takes, TakesPart};
-ghost use Rattle.lgc_io.specs.Streams.{WritesPart, untold_sink};
+ghost use Rattle.lgc_io.specs.Files.{GainsFile, IsLonger, FailsAt};
+ghost use Rattle.lgc_io.specs.Streams.{WritesPart, untold_files, untold_sink};
 
 use crate::files::{FileFault, Files, Reading};
 use crate::sink::{Sink, SinkFault};
@@ -12,6 +13,9 @@ use std::io::{Read, Write};
 use std::{fs, rt};
 
 /// The files of the machine.
+///
+/// No clause of std says which file is opened under a name, nor when an open or a read fails. So the clauses of `read_file` speak of
+/// some file of the machine: `Whole` comes with all bytes that it had left, and `TooLong` where these were more than the limit.
 #[derive(Drop)]
 pub struct HostFiles<R: rt::Files + Drop> {
     alloc: Global,
@@ -23,7 +27,7 @@ pub struct HostFiles<R: rt::Files + Drop> {
 impl<R: rt::Files + Drop> HostFiles<R> {
     /// The files that `rt` reaches, without a fault so far. It takes no memory.
     pub fn new(alloc: Global, rt: R) -> HostFiles<R>
-        ensures { ⟦<HostFiles<R> as Files>⟧.state result ≡ record { told = None; faults = 0; last = [] } }
+        ensures { ⟦<HostFiles<R> as Files>⟧.state result ≡ untold_files 0 [] }
     {
         HostFiles {
             alloc,
@@ -60,7 +64,7 @@ fn read_up_to<F: Read>(file: &mut F, limit: usize, into: &mut Vec<u8>) -> Result
 }
 
 impl<R: rt::Files + Drop> Files for HostFiles<R> {
-    ghost state = { λ f. record { told = None; faults = f.faults; last = f.last } };
+    ghost state = { λ f. untold_files f.faults f.last };
 
     #[tactic(auto, using(crate::proofs::Unseen::longer_unseen))]
     fn read_file(
@@ -68,7 +72,16 @@ impl<R: rt::Files + Drop> Files for HostFiles<R> {
         name: &str,
         limit: usize,
         into: &mut Vec<u8>,
-    ) -> Result<Reading, FileFault> {
+    ) -> Result<Reading, FileFault>
+        ensures whole { result ≡ Ok Reading.Whole → GainsFile (untold_files self.old.faults self.old.last) name.now limit into.old.items into.new.items }
+        ensures long { result ≡ Ok Reading.TooLong → IsLonger (untold_files self.old.faults self.old.last) name.now limit }
+        ensures failed { IsErrOf result FileFault.Failed → FailsAt (untold_files self.old.faults self.old.last) (untold_files self.new.faults self.new.last) name.now }
+        ensures unread { (result ≡ Ok Reading.Whole → ⊥) → into.new.items ≡ into.old.items }
+        ensures quiet { (IsErrOf result FileFault.Failed → ⊥) → untold_files self.new.faults self.new.last ≡ untold_files self.old.faults self.old.last }
+        ensures told { (untold_files self.new.faults self.new.last).told ≡ (untold_files self.old.faults self.old.last).told }
+        ensures all { result ≡ Ok Reading.Whole → (file : R.File) × IfSome (R.File.remaining file) (λ all. into.new.items ≡ into.old.items ++ all) }
+        ensures more { result ≡ Ok Reading.TooLong → (file : R.File) × IfSome (R.File.remaining file) (λ all. limit < length all) }
+    {
         let asked = Name::of_bytes(self.alloc, name.as_bytes()).map_err(|_| FileFault::Memory)?;
         let before = into.len();
         let outcome = match fs::open(&self.rt, name) {
@@ -97,7 +110,8 @@ impl<R: rt::Files + Drop> Files for HostFiles<R> {
 
 /// A sink over a writer of std. A write that takes nothing of what is left is a fault, and so is a failed flush.
 ///
-/// Over a writer whose bytes are known, the clauses of `put` tell which bytes it took.
+/// Over a writer whose bytes are known, the clauses of `put` tell which bytes it took. That the bytes are flushed isn't among them:
+/// std says of a flush only that it keeps these bytes.
 #[derive(Drop)]
 pub struct StreamSink<W: Write> {
     inner: W,
