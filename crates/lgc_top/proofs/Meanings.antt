@@ -12,10 +12,11 @@ use Rattle.lgc_spec.specs.Logics.{logic_of}
 use Rattle.lgc_spec.specs.Specification.{BytesGive}
 use Rattle.lgc_spec.proofs.OneSpec.{one_answer}
 use Rattle.lgc_syntax.specs.declared.fault.InputFault.{InputFault}
-use Rattle.lgc_rules.specs.RuleFile.{file_read}
+use Rattle.lgc_syntax.specs.declared.fault.InputFault.TheVariants as input
 use Rattle.lgc_top.specs.declared.status.Status.{Status}
 use Rattle.lgc_top.specs.declared.status.Status.TheVariants.{Done, Usage, BadSpec, BadInput, Rejected, ReadFault, WriteFault, Memory}
 use Rattle.lgc_top.specs.Commands.{Command, Calculus, Verify, spec_of}
+use Rattle.lgc_top.specs.Verify.{RulesGiven}
 use Rattle.lgc_top.specs.Run.{Run, Ends, Answers, FilesAnswer, CommandAnswers, WordsAnswer, Works, Puts, HasInput}
 use Rattle.lgc_top.specs.Means.{Tells, RulesMean, SpecMeans, CommandMeans, Means, IsFaultless}
 
@@ -35,15 +36,15 @@ works_mean : (command : Command) (files : FilesState) (status : Status) (text : 
 works_mean (Calculus file) files Done text (spec, has, calculus) = (has.bytes, Ok spec, has.held, has.given, refl)
 works_mean (Calculus file) files _ text h = absurd h
 works_mean (Verify file rules) files Done text (spec, bytes, has, verdicts) =
-    (has.logic.bytes, Ok spec, has.logic.held, has.logic.given, (bytes, second_held file rules files spec bytes has, rw verdicts.given.exact (verdicts.decided.0 refl)))
+    (has.logic.bytes, Ok spec, has.logic.held, has.logic.given, (bytes, Ok verdicts.rules, second_held file rules files spec bytes has, verdicts.given, verdicts.decided.0 refl))
 works_mean (Verify file rules) files Rejected text (spec, bytes, has, verdicts) =
-    (has.logic.bytes, Ok spec, has.logic.held, has.logic.given, (bytes, second_held file rules files spec bytes has, rw verdicts.given.exact (λ all. let no : false ≡ true = verdicts.decided.1 all in absurd cc)))
+    (has.logic.bytes, Ok spec, has.logic.held, has.logic.given, (bytes, Ok verdicts.rules, second_held file rules files spec bytes has, verdicts.given, λ all. let no : false ≡ true = verdicts.decided.1 all in absurd cc))
 works_mean (Verify file rules) files _ text h = absurd h
 
 faults_mean : (command : Command) (files : FilesState) (line : List ℕ) → FilesAnswer command files BadInput line → CommandMeans (Holds files) command BadInput
 faults_mean (Calculus file) files line (spec, bytes, has, fault) = absurd fault.given
 faults_mean (Verify file rules) files line (spec, bytes, has, fault) =
-    (has.logic.bytes, Ok spec, has.logic.held, has.logic.given, (bytes, second_held file rules files spec bytes has, rw fault.given.exact refl))
+    (has.logic.bytes, Ok spec, has.logic.held, has.logic.given, (bytes, Err (input.Fault fault.number fault.offset), second_held file rules files spec bytes has, fault.given, refl))
 
 answers_mean : (command : Command) (files files_after : FilesState) (status : Status) (bytes : List ℕ) → CommandAnswers command files files_after status bytes → (status ≡ ReadFault → ⊥) → CommandMeans (Holds files) command status
 answers_mean command files files_after ReadFault line h other = absurd (other refl)
@@ -56,6 +57,9 @@ answers_mean command files files_after WriteFault text (same, h) other = works_m
 answers_mean command files files_after Memory text (same, h) other = works_mean command files Memory text h
 
 -- ---- one status is meant
+
+given_once : (logic : Logic) (bytes : List ℕ) (found also : Result (List (Rule logic.size)) InputFault) → RulesGiven logic bytes found → RulesGiven logic bytes also → found ≡ also
+given_once logic bytes found also gives given = sym gives.exact ∙ given.exact
 
 rules_once : (logic : Logic) (told : Result (List (Rule logic.size)) InputFault) (a b : Status) → RulesMean logic told a → RulesMean logic told b → a ≡ b
 rules_once logic (Err fault) a b p q = p ∙ sym q
@@ -71,10 +75,11 @@ module _ (files : FilesState) where
   spec_once : (command : Command) (found : Result Spec SpecFault) (a b : Status) → SpecMeans (Holds files) command found a → SpecMeans (Tells files) command found b → a ≡ b
   spec_once command (Err fault) a b p q = p ∙ sym q
   spec_once (Calculus file) (Ok spec) a b p q = p ∙ sym q
-  spec_once (Verify file rules) (Ok spec) a b (bytes, held, p) (other, told, q) =
+  spec_once (Verify file rules) (Ok spec) a b (bytes, found, held, gives, p) (other, also, told, given, q) =
       let logic : Logic = logic_of spec in
       let same : bytes ≡ other = held_once files rules bytes other held told in
-      rules_once logic (file_read logic.size logic bytes) a b p (subst (λ some. RulesMean logic (file_read logic.size logic some) b) (sym same) q)
+      let one : found ≡ also = given_once logic bytes found also gives (subst (λ some. RulesGiven logic some also) (sym same) given) in
+      rules_once logic found a b p (subst (λ f. RulesMean logic f b) (sym one) q)
 
   means_once : (command : Command) (a b : Status) → CommandMeans (Holds files) command a → CommandMeans (Tells files) command b → a ≡ b
   means_once command a b (bytes, found, held, gives, p) (other, also, told, given, q) =

@@ -10,11 +10,11 @@ use Rattle.lgc_spec.specs.declared.fault.SpecFault.{SpecFault}
 use Rattle.lgc_spec.specs.Logics.{logic_of}
 use Rattle.lgc_spec.specs.Specification.{BytesGive}
 use Rattle.lgc_syntax.specs.declared.fault.InputFault.{InputFault}
-use Rattle.lgc_rules.specs.RuleFile.{file_read}
 use Rattle.lgc_verify.specs.Verdicts.{IsRight}
 use Rattle.lgc_top.specs.declared.status.Status.{Status}
 use Rattle.lgc_top.specs.declared.status.Status.TheVariants.{Done, BadSpec, BadInput, Rejected}
 use Rattle.lgc_top.specs.Commands.{Command, Calculus, Verify, spec_of, command_of}
+use Rattle.lgc_top.specs.Verify.{RulesGiven}
 use Rattle.lgc_top.specs.Run.{Run}
 
 -- no count of faults rose
@@ -27,7 +27,7 @@ pub record IsFaultless (run : Run) : Type 0 where
 abbrev pub Tells : FilesState → List ℕ → List ℕ → Type 0
 Tells files file bytes = IsSomeAnd files.told (λ told. file_at told file ≡ Some bytes)
 
--- What the bytes of a rule file mean: a fault BadInput, and rules Done or Rejected, by whether all of them are right.
+-- What a rule file means by what it gives: a fault BadInput, and rules Done or Rejected, by whether all of them are right.
 abbrev pub RulesMean : (logic : Logic) → Result (List (Rule logic.size)) InputFault → Status → Type 0
 RulesMean logic (Err fault) status = status ≡ BadInput
 RulesMean logic (Ok rules) Done = All (IsRight logic) (map plain_rule rules)
@@ -37,7 +37,7 @@ RulesMean logic (Ok rules) status = ⊥
 -- What a logic means for a command, where `Has` says which bytes a file has.
 abbrev pub LogicMeans : (List ℕ → List ℕ → Type 0) → Command → Logic → Status → Type 0
 LogicMeans Has (Calculus file) logic status = status ≡ Done
-LogicMeans Has (Verify file rules) logic status = (bytes : List ℕ) × Has rules bytes × RulesMean logic (file_read logic.size logic bytes) status
+LogicMeans Has (Verify file rules) logic status = (bytes : List ℕ) × (told : Result (List (Rule logic.size)) InputFault) × Has rules bytes × RulesGiven logic bytes told × RulesMean logic told status
 
 -- What the bytes of a specification mean: a fault BadSpec, and else what its logic means.
 abbrev pub SpecMeans : (List ℕ → List ℕ → Type 0) → Command → Result Spec SpecFault → Status → Type 0
