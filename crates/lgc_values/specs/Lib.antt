@@ -1,3 +1,4 @@
 pub mod Values
 pub mod Masks
 pub mod Logic
+pub mod formers
