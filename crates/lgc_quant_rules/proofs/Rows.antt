@@ -13,7 +13,7 @@ use Rattle.lgc_clauses.proofs.Changes.{has_below}
 use Rattle.lgc_clauses.proofs.Sets.{some_member}
 use Rattle.lgc_quant_rules.proofs.Starts.{all_at}
 
-pub row_below : (n row : ℕ) → n ≤ MOST_VALUES → row < 2 ^ n - 1 → row < 255
+pub row_below : (n row : ℕ) → n ≤ MOST_VALUES → row < 2 ^ n - 1 → row < 2 ^ MOST_VALUES - 1
 row_below n row le lt = let most : 2 ^ n ≤ 2 ^ MOST_VALUES = pow_mono le in omega arith
 
 pub row_has_values : (n row : ℕ) → row < 2 ^ n - 1 → set_of_row n row ≢ []

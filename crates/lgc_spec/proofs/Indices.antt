@@ -67,18 +67,18 @@ pub length-arguments_at : (n k row : ℕ) → length (arguments_at n k row) ≡ 
 length-arguments_at n zero row = refl
 length-arguments_at n (suc k) row = ap suc (length-arguments_at n k row)
 
--- a logic's rows are few
-pub power_small : (n k : ℕ) → 0 < n → n ≤ MOST_VALUES → k ≤ MOST_ARGUMENTS → n ^ k ≤ 4096
-power_small n k some few narrow =
-    let up : n ^ k ≤ n ^ 4 = pow-le-pow_right some narrow in
-    let most : n ^ 4 ≤ 8 ^ 4 = pow-le-pow_left few 4 in
+-- powers of few values are small
+pub power_small : (n k most : ℕ) → 0 < n → n ≤ MOST_VALUES → k ≤ most → n ^ k ≤ MOST_VALUES ^ most
+power_small n k most some few narrow =
+    let up : n ^ k ≤ n ^ most = pow-le-pow_right some narrow in
+    let over : n ^ most ≤ MOST_VALUES ^ most = pow-le-pow_left few most in
     omega arith
 
 -- one more digit of an index
-pub index_next : (n index k count digit : ℕ) → 0 < n → n ≤ MOST_VALUES → count ≤ MOST_ARGUMENTS → k < count → index < n ^ k → digit < n → (index * n + digit < n ^ (k + 1)) × (index * n + digit ≤ 4096)
+pub index_next : (n index k count digit : ℕ) → 0 < n → n ≤ MOST_VALUES → count ≤ MOST_ARGUMENTS → k < count → index < n ^ k → digit < n → (index * n + digit < n ^ (k + 1)) × (index * n + digit ≤ MOST_VALUES ^ MOST_ARGUMENTS)
 index_next n index k count digit some few narrow lt below fits =
     let next : n ^ (k + 1) ≡ n ^ k * n = rw add-one (pow-suc n k) in
     let up : index * n + digit < n * n ^ k = mul-add-lt index n digit (n ^ k) below fits in
     let comm : n ^ k * n ≡ n * n ^ k = grind arith in
-    let small : n ^ (k + 1) ≤ 4096 = power_small n (k + 1) some few (omega arith) in
+    let small : n ^ (k + 1) ≤ MOST_VALUES ^ MOST_ARGUMENTS = power_small n (k + 1) MOST_ARGUMENTS some few (omega arith) in
     (rw (next, comm) up, omega (arith, rw (next, comm) at small))

@@ -27,7 +27,7 @@ width_small Associative = omega arith
 
 -- the values that a law speaks of are those of a few rows
 pub few_rows : (n k : ℕ) → 2 ≤ n → n ≤ MOST_VALUES → k ≤ 3 → n ^ k ≤ MOST_ROWS
-few_rows n k some few narrow = power_small n k (omega arith) few (omega arith)
+few_rows n k some few narrow = let small : n ^ k ≤ MOST_VALUES ^ 3 = power_small n k 3 (omega arith) few narrow in omega arith
 
 -- ---- the first index at which a law fails
 

@@ -20,8 +20,8 @@ cell_within n line column a b =
 pub heading_within : (n line : ℕ) → line < n → heading_place n line < n * n + 2 * n
 heading_within n line lt = let next = cell_within n line 0 lt (omega arith) in omega arith
 
-pub few_cells : (n : ℕ) → n ≤ MOST_VALUES → n * n + 2 * n ≤ 80
-few_cells n few = let square : n * n ≤ n * 8 = mul-le-mul_left n few in omega arith
+pub few_cells : (n : ℕ) → n ≤ MOST_VALUES → n * n + 2 * n ≤ MOST_VALUES * MOST_VALUES + 2 * MOST_VALUES
+few_cells n few = let square : n * n ≤ n * MOST_VALUES = mul-le-mul_left n few in omega arith
 
 pub length-headings : (n : ℕ) (cells : List Word) → length (headings n cells) ≡ n
 length-headings n cells = length-map-range_with_len (λ line. cell_at cells (heading_place n line)) 0 n

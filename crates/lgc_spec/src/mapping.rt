@@ -83,7 +83,7 @@ pub(crate) fn argument_names(
 ) -> Result<List<Name>, AllocError>
     requires some { 2 ≤ length names.now }
     requires few { length names.now ≤ MOST_VALUES }
-    requires narrow { length names.now ^ arity ≤ MOST_ROWS }
+    requires short { length names.now ^ arity ≤ MOST_ROWS }
     ensures { IfOk result (λ found. found ≡ names_of names.now (arguments_at (length names.now) arity index)) }
 {
     let mut found = List::new(alloc);
@@ -118,6 +118,7 @@ pub(crate) fn mapping_given(
     requires some { 2 ≤ length names.now }
     requires few { length names.now ≤ MOST_VALUES }
     requires narrow { arity ≤ MOST_ARGUMENTS }
+    requires short { length names.now ^ arity ≤ MOST_ROWS }
     ensures { Gives (λ table. table) result (mapping_given bytes.now names.now arity rows.now close) }
 {
     let count = names.len().pow(u32::from(arity));

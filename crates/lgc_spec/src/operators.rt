@@ -1,8 +1,8 @@
 // Operators.
-ghost use Rattle.std.specs.Prelude.{◌≡◌, ◌<◌, ◌≤◌, List, length, map, All, IfOk, MatchOption};
+ghost use Rattle.std.specs.Prelude.{◌≡◌, ◌<◌, ◌≤◌, ◌^◌, List, length, map, All, IfOk, MatchOption};
 ghost use Rattle.std.specs.Str.{bytes_eq};
 ghost use Rattle.std.specs.List.{list_any};
-ghost use Rattle.lgc_values.specs.declared.TheConstants.{MOST_VALUES, MOST_ARGUMENTS};
+ghost use Rattle.lgc_values.specs.declared.TheConstants.{MOST_VALUES, MOST_ARGUMENTS, MOST_ROWS};
 ghost use Rattle.lgc_parser.specs.TreeWords.{OpBodyHas, StatementHas};
 ghost use Rattle.lgc_spec.specs.Faults.{Gives, Passes, Answers};
 ghost use Rattle.lgc_spec.specs.Words.{LiesIn, text_of};
@@ -45,6 +45,7 @@ fn arity_given(bytes: &[u8], n: usize, word: &Word) -> Result<u8, SpecFault>
     requires few { n ≤ MOST_VALUES }
     ensures arity { Gives (λ arity. arity) result (arity_given bytes.now n word.now) }
     ensures narrow { IfOk result (λ arity. arity ≤ MOST_ARGUMENTS) }
+    ensures short { IfOk result (λ arity. n ^ arity ≤ MOST_ROWS) }
 {
     match arity_of(text_of(bytes, word)) {
         Some(arity) if n.pow(u32::from(arity)) <= MOST_ROWS => Ok(arity),
@@ -90,6 +91,7 @@ fn body_given(
     requires some { 2 ≤ length names.now }
     requires few { length names.now ≤ MOST_VALUES }
     requires narrow { arity ≤ MOST_ARGUMENTS }
+    requires short { length names.now ^ arity ≤ MOST_ROWS }
     ensures { (orderings : List Ordered) → AreKept bytes.now (length names.now) orders.now orderings
         → Answers (BodyGives bytes.now names.now orderings arity body.now) result }
 {

@@ -21,8 +21,7 @@ pub(crate) fn has(mask: u16, value: u8) -> bool
 /// How many nonempty sets `n` values have.
 pub(crate) fn set_count(n: usize) -> u16
     requires { n ≤ MOST_VALUES }
-    ensures count { result ≡ 2 ^ n - 1 }
-    ensures small { result ≤ 255 }
+    ensures { result ≡ 2 ^ n - 1 }
 {
     (1 << n) - 1
 }

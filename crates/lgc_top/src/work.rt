@@ -49,6 +49,10 @@ macro_rules! at_size {
             6 => $call::<6>($($argument),*),
             7 => $call::<7>($($argument),*),
             8 => $call::<8>($($argument),*),
+            9 => $call::<9>($($argument),*),
+            10 => $call::<10>($($argument),*),
+            11 => $call::<11>($($argument),*),
+            12 => $call::<12>($($argument),*),
             _ => unreachable!(),
         }
     };

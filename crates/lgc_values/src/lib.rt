@@ -23,7 +23,7 @@ pub use rows::argument_at;
 pub use value_set::ValueSet;
 
 /// The greatest number of truth values of a logic.
-pub const MOST_VALUES: usize = 8;
+pub const MOST_VALUES: usize = 12;
 
 /// The greatest number of arguments of an operator.
 pub const MOST_ARGUMENTS: u8 = 4;

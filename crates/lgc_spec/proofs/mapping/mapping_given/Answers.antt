@@ -1,16 +1,10 @@
-use Rattle.std.proofs.Common.{◌≡◌, ◌<◌, ◌≤◌, ◌^◌, length, arith, ◌∙◌}
+use Rattle.std.proofs.Common.{◌≡◌, ◌<◌, ◌^◌, length, arith, ◌∙◌}
 use Rattle.std.proofs.lemmas.List.{take_at}
-use Rattle.lgc_spec.proofs.Indices.{power_small}
 use Rattle.lgc_spec.proofs.MappingEnds.{mapping_misses, mapping_tells}
 use Rattle.lgc_spec.proofs.mapping.mapping_given.Goals as goal
 
 pub pow-count-requires : goal.pow-count-requires
-pow-count-requires c =
-    let small = power_small (length c.args.names.now) c.args.arity (omega arith) c.requires.few c.requires.narrow in
-    rw c.from.ensures (omega arith)
-
-pub argument_names-requires-clause-narrow : goal.argument_names-requires-clause-narrow
-argument_names-requires-clause-narrow c = power_small (length c.args.names.now) c.args.arity (omega arith) c.requires.few c.requires.narrow
+pow-count-requires c = rw c.from.ensures (omega (arith, c.requires.short))
 
 pub overflow_cast-index : goal.overflow_cast-index
 overflow_cast-index c =
@@ -18,8 +12,7 @@ overflow_cast-index c =
     let same : c.deref.result.now ≡ c.put_rows.new.table = c.deref.ensures.value ∙ take_at c.put_rows.new.table _ c.in_ok-table.table.len size in
     let within : c.in-Some.index < length c.put_rows.new.table = (rw same at c.in-Some.ensures).0 in
     let whole : length c.put_rows.new.table ≡ length c.args.names.now ^ c.args.arity = c.in_ok-put_rows.ensures.rows.size in
-    let small : length c.args.names.now ^ c.args.arity ≤ 4096 = power_small (length c.args.names.now) c.args.arity (omega arith) c.requires.few c.requires.narrow in
-    omega arith
+    omega (arith, c.requires.short)
 
 pub returns-in-Some : goal.returns-in-Some
 returns-in-Some c =
