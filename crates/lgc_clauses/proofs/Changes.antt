@@ -7,10 +7,10 @@ use Rattle.std.proofs.lemmas.List.{drop_all, length-set, get_or-set_same, get_or
 use Rattle.std.proofs.lemmas.Bool.{cases_eq, eq-eqb, ne_eqb, ltb-true, and_parts}
 use Rattle.std.proofs.lemmas.List.Folds.{list_any-append}
 use Rattle.std.specs.Int.{bit_at}
-use Rattle.lgc_values.specs.Values.{has, members_of}
+use Rattle.lgc_values.specs.Values.{has, members_of, set_of_row}
 use Rattle.lgc_values.specs.Logic.{Logic, arguments_at}
 use Rattle.lgc_values.proofs.ValueLaws.{has-values_where}
-use Rattle.lgc_clauses.specs.Rules.{Head, operator, quantifier, some_in, clause_holds, holds_over, set_of_row, is_true_at, all_true_at}
+use Rattle.lgc_clauses.specs.Rules.{Head, operator, quantifier, some_in, clause_holds, holds_over, is_true_at, all_true_at}
 use Rattle.lgc_clauses.proofs.Walking.{holds_more}
 use Rattle.lgc_clauses.specs.Irredundance.{sets_without, clauses_without, set_at, clause_at}
 
@@ -174,8 +174,3 @@ pub without_none : (size : ℕ) (sets : List (List ℕ)) (i v j row : ℕ) → l
 without_none size sets i v j row le =
     let count : length (sets_without sets i v) ≡ length sets = length-set sets i (filter (λ w. not (w == v)) (set_at sets i)) in
     rw (drop_all j (sets_without sets i v) (omega arith)) refl
-
-pub has_below : (n mask v : ℕ) (set : List ℕ) → set ≡ members_of n mask → has set v ≡ true → v < n
-has_below n mask v set is mem =
-    let all : has set v ≡ (nat_lt v n && (bit_at mask v == 1)) = ap (λ s. has s v) is ∙ has-values_where n (λ w. bit_at mask w == 1) v in
-    ltb-true v n (and_parts (nat_lt v n) (bit_at mask v == 1) (sym all ∙ mem)).0

@@ -1,4 +1,3 @@
 pub mod Walking
 pub mod Changes
 pub mod Asked
-pub mod Sets

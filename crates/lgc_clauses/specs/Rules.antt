@@ -1,7 +1,7 @@
 -- Clauses and rules of operators and of quantifiers: where they are true, when a rule fits, and the order of clauses.
 use Rattle.std.specs.Prelude.{◌≡◌, ◌≢◌, ℕ, ◌+◌, ◌-◌, ◌^◌, ◌<◌, ◌==◌, ◌||◌, Bool, true, false, List, [], ◌∷◌, length, drop, All, AllPairs, map, nat_lt, if◌then◌else◌}
 use Rattle.std.specs.List.{list_all, list_any}
-use Rattle.lgc_values.specs.Values.{has, mask_of, members_of}
+use Rattle.lgc_values.specs.Values.{has, mask_of, set_of_row}
 use Rattle.lgc_values.specs.Logic.{Logic, operator_at, arguments_at, row_count, value_at, value_over}
 
 -- ---- clauses of operators
@@ -23,10 +23,6 @@ clause_holds size sets row = some_in sets (arguments_at size (length sets) row)
 abbrev pub holds_over : List (List ℕ) → List ℕ → Bool
 holds_over [] values = false
 holds_over (some ∷ all) values = list_any (has some) values || list_any (λ set. list_all (has set) values) all
-
--- the nonempty set of values that stands in a row, given by its index: the set whose mask is the index and one
-abbrev pub set_of_row : ℕ → ℕ → List ℕ
-set_of_row size row = members_of size (row + 1)
 
 -- ---- rules
 

@@ -68,7 +68,7 @@ pub fn qclause_true_at<const N: usize>(c: &QClause<N>, set: ValueSet<N>) -> bool
 fn over_parts<const N: usize>(some: ValueSet<N>, all: &[ValueSet<N>], set: ValueSet<N>) -> bool
     ensures { result ≡ holds_over (some.entry ∷ all.now) set.entry }
 {
-    meets(some, set) || lies_in_some(set, all)
+    some.meets(set) || set.lies_in_some(all)
 }
 
 // Whether some argument of the row with the index `row` lies in its set.
@@ -81,26 +81,6 @@ pub(crate) fn sets_hold<const N: usize>(sets: &[ValueSet<N>], row: u32) -> bool
 {
     for (j, set) in sets.iter().enumerate() {
         if set.contains(argument_at(N as u32, sets.len() as u32, row, j as u32)) {
-            return true;
-        }
-    }
-    false
-}
-
-// Whether two sets have a value in common.
-fn meets<const N: usize>(a: ValueSet<N>, b: ValueSet<N>) -> bool
-    ensures { result ≡ list_any (has a.entry) b.entry }
-{
-    let _mask = b.mask();
-    !a.meet(b).is_empty()
-}
-
-// Whether a set lies in one of the others.
-fn lies_in_some<const N: usize>(set: ValueSet<N>, others: &[ValueSet<N>]) -> bool
-    ensures { result ≡ list_any (λ other. list_all (has other) set.entry) others.now }
-{
-    for other in others {
-        if set.is_subset(*other) {
             return true;
         }
     }
@@ -162,8 +142,8 @@ pub(crate) fn holds_over_without<const N: usize>(
     ensures { result ≡ holds_over (sets_without clause.now j v) set.entry }
 {
     match j {
-        0 => over_parts(without(clause.some, v), clause.all.items(), set),
-        _ => meets(clause.some, set) || lies_in_some_without(set, clause.all.items(), j - 1, v),
+        0 => over_parts(clause.some.without(v), clause.all.items(), set),
+        _ => clause.some.meets(set) || lies_in_some_without(set, clause.all.items(), j - 1, v),
     }
 }
 
@@ -179,7 +159,7 @@ fn lies_in_some_without<const N: usize>(
     requires value { v < N }
     ensures { result ≡ list_any (λ other. list_all (has other) set.entry) (sets_without others.now j v) }
 {
-    set.is_subset(without(others[j], v)) || lies_in_another(set, others, j)
+    set.is_subset(others[j].without(v)) || lies_in_another(set, others, j)
 }
 
 // Whether a set lies in one of the others but set `j` of these.
@@ -188,14 +168,5 @@ fn lies_in_another<const N: usize>(set: ValueSet<N>, others: &[ValueSet<N>], j: 
     requires { j < length others.now }
     ensures { result ≡ list_any (λ other. list_all (has other) set.entry) (remove others.now j) }
 {
-    lies_in_some(set, &others[..j]) || lies_in_some(set, &others[j + 1..])
-}
-
-// A set without a value.
-fn without<const N: usize>(set: ValueSet<N>, v: u8) -> ValueSet<N>
-    requires { v < N }
-    ensures { result ≡ filter (λ w. not (w == v)) set.entry }
-{
-    let _mask = set.mask();
-    set.without(v)
+    set.lies_in_some(&others[..j]) || set.lies_in_some(&others[j + 1..])
 }

@@ -161,8 +161,7 @@ fn first_value_of_set<const N: usize>(
     ensures { MatchOption result (Never (IsRedundantValue m.now (plain_rule rule.now) i j)) (IsFirst (IsRedundantValue m.now (plain_rule rule.now) i j)) }
 {
     let set = set_of(rule, i, j);
-    let _mask = set.mask();
-    for v in 0..N as u8 {
+    for v in 0..set.bound() {
         if set.contains(v) && exact_without_value(m, rule, agreed, i, j, v) {
             return Some(v);
         }

@@ -3,10 +3,10 @@
 // These functions alone know how rules of operators and of quantifiers are read. The tests on rules are made once for
 // both, and distinguish the kinds only in how the sets of a clause are named and in which order they are asked.
 ghost use Rattle.std.specs.Prelude.{◌≡◌, ◌≢◌, ◌+◌, ◌-◌, ◌<◌, ◌^◌, ℕ, [], All, length, slice_index_or};
-ghost use Rattle.lgc_values.specs.Values.{has};
+ghost use Rattle.lgc_values.specs.Values.{has, set_of_row};
 ghost use Rattle.lgc_values.specs.Logic.{operator_at, row_count};
 ghost use Rattle.lgc_clauses.specs.Kinds.{plain_rule};
-ghost use Rattle.lgc_clauses.specs.Rules.{rows_of, value_in, is_true_at, clause_holds, holds_over, set_of_row, Fits};
+ghost use Rattle.lgc_clauses.specs.Rules.{rows_of, value_in, is_true_at, clause_holds, holds_over, Fits};
 ghost use Rattle.lgc_clauses.specs.Irredundance.{clause_at, set_at, sets_without};
 
 use crate::clause::{
@@ -38,20 +38,9 @@ pub(crate) fn is_inside<const N: usize>(m: &Matrix<N>, rule: &Rule<N>, row: u32)
         Rule::Operator(rule) => rule.sign.contains(m.apply(rule.op, row)),
         Rule::Quantifier(rule) => {
             rule.sign
-                .contains(m.distribute(rule.quant, set_of_row(m, row)))
+                .contains(m.distribute(rule.quant, m.set_of_row(row)))
         }
     }
-}
-
-// The nonempty set of values that stands in a row of a quantifier's table.
-#[tactic(auto, using(crate::proofs::Sets::some_member))]
-fn set_of_row<const N: usize>(m: &Matrix<N>, row: u32) -> ValueSet<N>
-    requires { row < 2 ^ m.now.size - 1 }
-    ensures set { result ≡ set_of_row m.now.size row }
-    ensures nonempty { result ≢ [] }
-{
-    let _quantifiers = m.quantifiers();
-    ValueSet::of_mask(row as u16 + 1)
 }
 
 // The number of clauses.
@@ -106,7 +95,7 @@ fn true_at_set<const N: usize>(m: &Matrix<N>, clauses: &[QClause<N>], i: usize, 
     requires row { row < 2 ^ m.now.size - 1 }
     ensures { result ≡ holds_over (clause_at clauses.now i) (set_of_row m.now.size row) }
 {
-    qclause_true_at(&clauses[i], set_of_row(m, row))
+    qclause_true_at(&clauses[i], m.set_of_row(row))
 }
 
 // Whether clause `i` is true at a row without value `v` of its set `j`. All are counted from 0.
@@ -169,7 +158,7 @@ fn true_at_set_without<const N: usize>(
     requires row { row < 2 ^ m.now.size - 1 }
     ensures { result ≡ holds_over (sets_without (clause_at clauses.now i) j v) (set_of_row m.now.size row) }
 {
-    holds_over_without(&clauses[i], j, v, set_of_row(m, row))
+    holds_over_without(&clauses[i], j, v, m.set_of_row(row))
 }
 
 // How many sets clause `i`, counted from 0, has.

@@ -1,31 +1,13 @@
 -- The steps of taking values from a clause.
-use Rattle.std.proofs.Common.{◌≡◌, ℕ, ◌<◌, Bool, true, false, ◌==◌, ◌&&◌, not, cond, List, [], ◌∷◌, length, set, get_or, refl, ap, sym, ◌∙◌}
+use Rattle.std.proofs.Common.{◌≡◌, ℕ, ◌<◌, true, ◌==◌, not, List, [], length, set, get_or, ap, ◌∙◌}
 use Rattle.std.specs.Prelude.{filter}
-use Rattle.std.specs.Int.{bit_at}
-use Rattle.std.specs.List.{range_with_len}
 use Rattle.std.proofs.lemmas.Bool.{both_ways, false_from_ne_true}
 use Rattle.std.proofs.lemmas.List.{get_or_read, set-set, set-get_or}
-use Rattle.lgc_values.specs.Values.{has, values_where, members_of}
-use Rattle.lgc_values.proofs.ValueLaws.{values_where-alike, has-members_of}
 use Rattle.lgc_clauses.specs.Irredundance.{sets_without}
 use Rattle.lgc_derivation.specs.Parts.{IsWithin}
 use Rattle.lgc_derivation.specs.Tables.{PlainTable}
 use Rattle.lgc_derivation.specs.Derived.{IsSettled, RefutesAt}
 use Rattle.lgc_derivation.proofs.Within.{within_at, within_both}
-
-filter-filter : (p q : ℕ → Bool) (xs : List ℕ) → filter q (filter p xs) ≡ filter (λ w. p w && q w) xs
-filter-filter p q [] = refl
-filter-filter p q (x ∷ xs) = pick (p x) (q x) refl (filter-filter p q xs) where
-  pick : (a b : Bool) → q x ≡ b → filter q (filter p xs) ≡ filter (λ w. p w && q w) xs → filter q (cond a (x ∷ filter p xs) (filter p xs)) ≡ cond (a && b) (x ∷ filter (λ w. p w && q w) xs) (filter (λ w. p w && q w) xs)
-  pick true true e rest = rw (e, rest) refl
-  pick true false e rest = rw (e, rest) refl
-  pick false b e rest = rest
-
--- a set without a value, as a filter of the set
-pub without_is : (n mask v : ℕ) (set : List ℕ) → set ≡ members_of n mask → values_where n (λ w. has set w && not (w == v)) ≡ filter (λ w. not (w == v)) set
-without_is n mask v set is =
-    rw is (values_where-alike n (λ w. has (members_of n mask) w && not (w == v)) (λ w. (bit_at mask w == 1) && not (w == v)) (λ w lt. ap (λ b. b && not (w == v)) (has-members_of n mask w lt))
-    ∙ sym (filter-filter (λ w. bit_at mask w == 1) (λ w. not (w == v)) (range_with_len 0 n)))
 
 -- a smaller set is written, and the old one again
 pub taken : (sets : List (List ℕ)) (j v : ℕ) (old less : List ℕ) → j < length sets → old ≡ get_or sets j old → less ≡ filter (λ w. not (w == v)) old → set sets j less ≡ sets_without sets j v

@@ -25,15 +25,6 @@ fn refuting_row<const N: usize, T: Table<N>>(table: &T, sets: &[ValueSet<N>]) ->
     None
 }
 
-// A set without a value.
-fn without_value<const N: usize>(set: ValueSet<N>, v: u8) -> ValueSet<N>
-    requires { v < N }
-    ensures { result ≡ filter (λ w. not (w == v)) set.entry }
-{
-    let _mask = set.mask();
-    set.without(v)
-}
-
 // Takes value `v` from set `j` where the clause then still follows.
 #[tactic(auto, using(crate::proofs::Within::within_refl))]
 fn try_drop<const N: usize, T: Table<N>>(table: &T, sets: &mut [ValueSet<N>], j: usize, v: u8)
@@ -48,7 +39,7 @@ fn try_drop<const N: usize, T: Table<N>>(table: &T, sets: &mut [ValueSet<N>], j:
     if !old.contains(v) {
         return;
     }
-    sets[j] = without_value(old, v);
+    sets[j] = old.without(v);
     if let Some(_row) = refuting_row(table, sets) {
         sets[j] = old;
     }
@@ -63,12 +54,9 @@ fn shrink_set<const N: usize, T: Table<N>>(table: &T, sets: &mut [ValueSet<N>], 
     ensures follows { Follows (T.plain table.now) sets.new }
     ensures settled { (v : ℕ) → IsSettled (T.plain table.now) sets.new j v }
 {
-    // The masks tell the proof that `N` is a size, and then that the set has no values from `N` on.
-    let _mask = sets[j].mask();
-    for v in 0..N as u8 {
+    for v in 0..sets[j].bound() {
         try_drop(table, sets, j, v);
     }
-    let _mask = sets[j].mask();
 }
 
 /// Makes a clause prime that is true at all rows of the target: takes each value from its sets

@@ -1,16 +1,16 @@
 -- A prime clause stays prime when its `all` sets are put in order.
-use Rattle.std.proofs.Common.{◌≡◌, ◌≢◌, ℕ, zero, suc, ◌-◌, ◌^◌, ◌<◌, ◌≤◌, Bool, true, false, ◌==◌, ◌||◌, not, List, [], ◌∷◌, length, set, get_or, refl, ap, sym, ◌∙◌, arith, ⊎_elim, subst}
+use Rattle.std.proofs.Common.{◌≡◌, ◌+◌, ◌≢◌, ℕ, zero, suc, ◌-◌, ◌^◌, ◌<◌, ◌≤◌, Bool, true, false, ◌==◌, ◌||◌, not, List, [], ◌∷◌, length, set, get_or, refl, ap, sym, ◌∙◌, arith, ⊎_elim, subst}
 use Rattle.std.specs.Prelude.{filter, All, Contains}
 use Rattle.std.specs.List.{list_all, list_any}
 use Rattle.std.proofs.lemmas.Bool.{and_parts, or_cases, or_left, or_right, or_parts, or_from, both_ways, false_from_ne_true, cases_eq, cases_lt}
 use Rattle.std.proofs.lemmas.List.{get_or-set_same, get_or-set_other, length-set, get_or_default}
 use Rattle.std.proofs.lemmas.List.Folds.{list_any_none, list_any_at, Any-from_list_any}
-use Rattle.lgc_values.specs.Values.{has, mask_of}
-use Rattle.lgc_clauses.specs.Rules.{holds_over, set_of_row}
+use Rattle.lgc_values.proofs.ValueLaws.{some_member}
+use Rattle.lgc_values.specs.Values.{has, mask_of, set_of_row}
+use Rattle.lgc_clauses.specs.Rules.{holds_over}
 use Rattle.lgc_derivation.specs.Tables.{PlainTable}
 use Rattle.lgc_derivation.specs.Derived.{IsPrime, IsSettled, Follows}
 use Rattle.lgc_quant_rules.specs.SetOrder.{RiseByMask, IsOrderOf, IsOrderedClauseOf}
-use Rattle.lgc_quant_rules.proofs.Rows.{row_has_values}
 
 -- rising sets differ
 differ : (sets : List (List ℕ)) (j k : ℕ) → j < length sets → k < length sets → (k ≡ j → ⊥) → RiseByMask sets → get_or sets j [] ≡ get_or sets k [] → ⊥
@@ -71,7 +71,7 @@ module _ (size count : ℕ) (target : ℕ → Bool) (short : count ≤ 2 ^ size 
       (λ there.
       let found = Any-from_list_any (λ set. list_all (has set) (set_of_row size row)) all there in
       let at : Contains all found.1 = (found.0, found.2, found.3) in
-      let stands : Contains ordered found.1 = kept_at found.1 at (lies_in_some_values values found.1 (row_has_values size row (omega arith)) found.4) in
+      let stands : Contains ordered found.1 = kept_at found.1 at (lies_in_some_values values found.1 (some_member size (row + 1) (omega arith) (omega arith)) found.4) in
       or_right (list_any (has some) values) (list_any (λ set. list_all (has set) values) ordered)
       (list_any_at (λ set. list_all (has set) (set_of_row size row)) ordered stands.0 found.1 stands.1 (subst (λ (one : List ℕ). list_all (has one) (set_of_row size row) ≡ true) (sym stands.2) found.4)))
       (or_cases (list_any (has some) values) (list_any (λ set. list_all (has set) values) all) (follows row lt inside)) where

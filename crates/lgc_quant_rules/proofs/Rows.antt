@@ -1,26 +1,15 @@
 -- Rows and the nonempty sets that stand in them.
-use Rattle.std.proofs.Common.{◌≡◌, ◌≢◌, ℕ, ◌+◌, ◌-◌, ◌^◌, ◌<◌, ◌≤◌, true, false, ◌==◌, List, [], refl, ap, sym, ◌∙◌, arith, Bool, ◌∷◌, ◌++◌, length, get_or, below_more}
+use Rattle.std.proofs.Common.{◌≡◌, ℕ, ◌+◌, ◌-◌, ◌^◌, ◌<◌, true, false, ◌==◌, List, [], refl, ap, sym, ◌∙◌, arith, Bool, ◌∷◌, ◌++◌, length, get_or, below_more}
 use Rattle.std.specs.Int.{bit_at}
 use Rattle.std.specs.List.{list_all}
 use Rattle.std.proofs.lemmas.List.{get_or_push, get_or_append_left}
-use Rattle.std.proofs.Math.Pow.{pow_mono}
-use Rattle.lgc_values.specs.Values.{has, mask_of}
+use Rattle.lgc_values.specs.Values.{has, mask_of, set_of_row}
 use Rattle.lgc_values.specs.Masks.{mask_of-members_of}
-use Rattle.lgc_values.specs.declared.TheConstants.{MOST_VALUES}
-use Rattle.lgc_values.proofs.ValueLaws.{values_where-alike, has-members_of}
-use Rattle.lgc_clauses.specs.Rules.{set_of_row}
-use Rattle.lgc_clauses.proofs.Changes.{has_below}
-use Rattle.lgc_clauses.proofs.Sets.{some_member}
+use Rattle.lgc_values.proofs.ValueLaws.{values_where-alike, has-members_of, members_below}
 use Rattle.lgc_quant_rules.proofs.Starts.{all_at}
 
-pub row_below : (n row : ℕ) → n ≤ MOST_VALUES → row < 2 ^ n - 1 → row < 2 ^ MOST_VALUES - 1
-row_below n row le lt = let most : 2 ^ n ≤ 2 ^ MOST_VALUES = pow_mono le in omega arith
-
-pub row_has_values : (n row : ℕ) → row < 2 ^ n - 1 → set_of_row n row ≢ []
-row_has_values n row lt = some_member n (row + 1) (omega arith) (omega arith)
-
 pub row_values_below : (n row v : ℕ) → has (set_of_row n row) v ≡ true → v < n
-row_values_below n row v member = has_below n (row + 1) v (set_of_row n row) refl member
+row_values_below n row v member = members_below n (row + 1) v (set_of_row n row) refl member
 
 -- rows whose sets have the same values are one
 pub same_row : (n row other : ℕ) → row < 2 ^ n - 1 → other < 2 ^ n - 1 → list_all (has (set_of_row n row)) (set_of_row n other) ≡ true → list_all (has (set_of_row n other)) (set_of_row n row) ≡ true → row ≡ other

@@ -1,5 +1,5 @@
 -- The clause that is false at one set alone.
-use Rattle.std.proofs.Common.{◌≡◌, ℕ, zero, suc, ◌+◌, ◌<◌, Bool, true, false, ◌==◌, ◌&&◌, not, List, [], ◌∷◌, ◌++◌, cond, map, refl, ap, sym, ◌∙◌, arith, ⊎_elim}
+use Rattle.std.proofs.Common.{◌≡◌, ℕ, zero, suc, ◌+◌, ◌<◌, Bool, true, false, ◌==◌, not, List, [], ◌∷◌, ◌++◌, cond, map, refl, ap, sym, ◌∙◌, arith, ⊎_elim}
 use Rattle.std.specs.Prelude.{nat_lt, filter}
 use Rattle.std.specs.List.{list_all, list_any, range_with_len}
 use Rattle.std.proofs.lemmas.Bool.{and_parts, and_from, and_cases, or_left, or_right, or_from, both_ways, false_from_ne_true, cases_Bool, eq-eqb, eqb-true, ne_eqb, or_cases, lt-ltb}
@@ -8,6 +8,7 @@ use Rattle.std.proofs.lemmas.List.Elements.{filter-append}
 use Rattle.lgc_values.specs.Values.{has, values_where}
 use Rattle.lgc_values.proofs.ValueLaws.{has-values_where}
 use Rattle.lgc_clauses.specs.Rules.{holds_over}
+use Rattle.lgc_clauses.proofs.Changes.{has-filter}
 use Rattle.lgc_derivation.specs.Parts.{IsWithin}
 use Rattle.lgc_quant_rules.specs.Quantifiers.{clause_against}
 use Rattle.lgc_quant_rules.specs.Laws.{holds_over_within}
@@ -69,16 +70,16 @@ passes_picked size p v member = (and_parts (nat_lt v size) (p v) (sym (has-value
 abbrev others : ℕ → List ℕ → List ℕ
 others size set = values_where size (λ v. not (has set v))
 
-abbrev less : ℕ → List ℕ → ℕ → List ℕ
-less size set w = values_where size (λ v. has set v && not (v == w))
+abbrev less : List ℕ → ℕ → List ℕ
+less set w = filter (λ v. not (v == w)) set
 
 -- it is false at the set
 pub against_fails : (size : ℕ) (set : List ℕ) → holds_over (clause_against size set) set ≡ false
-against_fails size set = or_from (list_any (has (others size set)) set) (list_any (λ one. list_all (has one) set) (map (less size set) (values_where size (has set))))
+against_fails size set = or_from (list_any (has (others size set)) set) (list_any (λ one. list_all (has one) set) (map (less set) (values_where size (has set))))
     (none_of (has (others size set)) set (λ v member. false_from_ne_true (has (others size set) v) (λ out. both_ways (not (has set v)) (ap not member) (passes_picked size (λ w. not (has set w)) v out))))
-    (none_map (λ one. list_all (has one) set) (less size set) (values_where size (has set)) (λ w member. false_from_ne_true (list_all (has (less size set w)) set) (λ lies.
-    let within : has (less size set w) w ≡ true = all_at (has (less size set w)) set w lies (passes_picked size (has set) w member) in
-    let parts = and_parts (has set w) (not (w == w)) (passes_picked size (λ v. has set v && not (v == w)) w within) in
+    (none_map (λ one. list_all (has one) set) (less set) (values_where size (has set)) (λ w member. false_from_ne_true (list_all (has (less set w)) set) (λ lies.
+    let within : has (less set w) w ≡ true = all_at (has (less set w)) set w lies (passes_picked size (has set) w member) in
+    let parts = and_parts (has set w) (not (w == w)) (sym (has-filter (λ v. not (v == w)) set w) ∙ within) in
     both_ways (not (w == w)) (ap not (eq-eqb w w refl)) parts.1)))
 
 -- it is true at each other set of values
@@ -89,7 +90,7 @@ against_holds size set values within below apart = ⊎_elim inside outside (case
   some_holds = list_any (has (others size set)) values
 
   all_holds : Bool
-  all_holds = list_any (λ one. list_all (has one) values) (map (less size set) (values_where size (has set)))
+  all_holds = list_any (λ one. list_all (has one) values) (map (less set) (values_where size (has set)))
 
   outside : list_all (has set) values ≡ false → holds_over (clause_against size set) values ≡ true
   outside falls =
@@ -101,10 +102,10 @@ against_holds size set values within below apart = ⊎_elim inside outside (case
       (λ (back : list_all (has values) set ≡ true). absurd (apart all back))
       (λ (falls : list_all (has values) set ≡ false).
       let out = failing_value (has values) set falls in
-      let lies : list_all (has (less size set out.0)) values ≡ true = all_of (has (less size set out.0)) values (λ v member.
-      picked size (λ u. has set u && not (u == out.0)) v (below v member) (and_from (has set v) (not (v == out.0)) (all_at (has set) values v all member)
-      (ap not (ne_eqb v out.0 (λ e. both_ways (has values out.0) out.2 (ap (has values) (sym e) ∙ member)))))) in
-      or_right some_holds all_holds (any_map_at (λ one. list_all (has one) values) (less size set) (values_where size (has set)) out.0 (picked size (has set) out.0 (within out.0 out.1) out.1) lies))
+      let lies : list_all (has (less set out.0)) values ≡ true = all_of (has (less set out.0)) values (λ v member.
+      has-filter (λ u. not (u == out.0)) set v ∙ and_from (has set v) (not (v == out.0)) (all_at (has set) values v all member)
+      (ap not (ne_eqb v out.0 (λ e. both_ways (has values out.0) out.2 (ap (has values) (sym e) ∙ member))))) in
+      or_right some_holds all_holds (any_map_at (λ one. list_all (has one) values) (less set) (values_where size (has set)) out.0 (picked size (has set) out.0 (within out.0 out.1) out.1) lies))
       (cases_Bool (list_all (has values) set))
 
 -- a clause with smaller sets is false there too
@@ -116,7 +117,7 @@ smaller_fails size set start smaller is within = false_from_ne_true (holds_over 
 
 -- the `some` set, and an `all` set for each value of the set below v
 abbrev pub clause_below : ℕ → List ℕ → ℕ → List (List ℕ)
-clause_below size set v = others size set ∷ map (less size set) (values_where v (has set))
+clause_below size set v = others size set ∷ map (less set) (values_where v (has set))
 
 range_more : (a n : ℕ) → range_with_len a (n + 1) ≡ range_with_len a n ++ (a + n) ∷ []
 range_more a zero = let e : a + 0 ≡ a = omega arith in rw e refl
@@ -130,12 +131,12 @@ values_more v test =
     let e : 0 + v ≡ v = omega arith in
     ap (filter test) (range_more 0 v ∙ ap (λ w. range_with_len 0 v ++ w ∷ []) e) ∙ filter-append test (range_with_len 0 v) (v ∷ [])
 
-pub value_more : (size v : ℕ) (set one : List ℕ) (sets pushed : List (List ℕ)) → has set v ≡ true → one ≡ less size set v → sets ≡ clause_below size set v → pushed ≡ sets ++ one ∷ [] → pushed ≡ clause_below size set (v + 1)
+pub value_more : (size v : ℕ) (set one : List ℕ) (sets pushed : List (List ℕ)) → has set v ≡ true → one ≡ less set v → sets ≡ clause_below size set v → pushed ≡ sets ++ one ∷ [] → pushed ≡ clause_below size set (v + 1)
 value_more size v set one sets pushed member is before added =
     let more : values_where (v + 1) (has set) ≡ values_where v (has set) ++ v ∷ [] = values_more v (has set) ∙ ap (λ b. values_where v (has set) ++ cond b (v ∷ []) []) member in
-    rw (added, before, is, more, map-append (less size set) (values_where v (has set)) (v ∷ [])) refl
+    rw (added, before, is, more, map-append (less set) (values_where v (has set)) (v ∷ [])) refl
 
 pub value_passed : (size v : ℕ) (set : List ℕ) (sets : List (List ℕ)) → has set v ≡ false → sets ≡ clause_below size set v → sets ≡ clause_below size set (v + 1)
 value_passed size v set sets out before =
     let more : values_where (v + 1) (has set) ≡ values_where v (has set) ++ [] = values_more v (has set) ∙ ap (λ b. values_where v (has set) ++ cond b (v ∷ []) []) out in
-    before ∙ ap (λ values. others size set ∷ map (less size set) values) (sym (more ∙ append-nil (values_where v (has set))))
+    before ∙ ap (λ values. others size set ∷ map (less set) values) (sym (more ∙ append-nil (values_where v (has set))))

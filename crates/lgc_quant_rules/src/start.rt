@@ -14,10 +14,9 @@ pub(crate) fn all_but_set<const N: usize>(
 ) -> Result<Vec<ValueSet<N>>, AllocError>
     ensures { IfOk result (λ sets. sets.items ≡ clause_against N set.entry) }
 {
-    let _mask = set.mask();
     let mut sets = Vec::new(alloc);
     sets.push(set.complement())?;
-    for v in 0..N as u8 {
+    for v in 0..set.bound() {
         if set.contains(v) {
             sets.push(set.without(v))?;
         }

@@ -1,9 +1,9 @@
 // The table of a quantifier at a sign: its rows, and the prime clauses that are false at one row.
 ghost use Rattle.std.specs.Prelude.{◌≡◌, ◌≢◌, ◌<◌, ◌≤◌, ◌-◌, ◌^◌, ◌+◌, ℕ, [], length, true, false, slice_index_or, IfOk};
 ghost use Rattle.std.specs.List.{list_all, list_any};
-ghost use Rattle.lgc_values.specs.Values.{IsSize, has};
+ghost use Rattle.lgc_values.specs.Values.{IsSize, has, set_of_row};
 ghost use Rattle.lgc_values.specs.Logic.{value_over};
-ghost use Rattle.lgc_clauses.specs.Rules.{holds_over, set_of_row};
+ghost use Rattle.lgc_clauses.specs.Rules.{holds_over};
 ghost use Rattle.lgc_quant_rules.specs.SetOrder.{IsOrderedClause};
 ghost use Rattle.lgc_quant_rules.specs.Laws.{holds_over_within};
 
@@ -36,7 +36,7 @@ impl<const N: usize> QuantifierTable<N> {
     {
         let mut inside = Vec::new(alloc);
         for row in 0..row_count(m) {
-            inside.push(sign.contains(m.distribute(q, set_of_row(row))))?;
+            inside.push(sign.contains(m.distribute(q, ValueSet::of_row(row))))?;
         }
         Ok(QuantifierTable { inside })
     }
@@ -55,7 +55,7 @@ impl<const N: usize> Table<N> for QuantifierTable<N> {
 
     fn holds_at(&self, sets: &[ValueSet<N>], row: u32) -> bool {
         let _rows = self.inside.len();
-        is_true_over(sets, set_of_row(row))
+        is_true_over(sets, ValueSet::of_row(row))
     }
 
     ghost monotone = { λ table narrow wide row within holds. holds_over_within narrow wide (set_of_row N row) within holds };
@@ -66,7 +66,7 @@ impl<const N: usize> PrimeClauses<N> for QuantifierTable<N> {
 
     fn prime_clause(&self, alloc: Global, row: u32) -> Result<List<ValueSet<N>>, AllocError> {
         let _rows = self.inside.len();
-        let mut sets = all_but_set(alloc, set_of_row(row))?;
+        let mut sets = all_but_set(alloc, ValueSet::of_row(row))?;
         shrink(self, &mut sets);
         Ok(List::of_vec(in_order(alloc, &sets)?))
     }
@@ -82,40 +82,9 @@ fn row_count<const N: usize>(m: &Matrix<N>) -> u32
     (1 << N) - 1
 }
 
-// The nonempty set that stands in a row.
-#[tactic(auto, using(crate::proofs::Rows::row_below, crate::proofs::Rows::row_has_values))]
-fn set_of_row<const N: usize>(row: u32) -> ValueSet<N>
-    requires size { IsSize N }
-    requires row { row < 2 ^ N - 1 }
-    ensures set { result ≡ set_of_row N row }
-    ensures nonempty { result ≢ [] }
-{
-    ValueSet::of_mask(row as u16 + 1)
-}
-
 // Whether a clause, given by its `some` set and then its `all` sets, is true at a set of values.
 fn is_true_over<const N: usize>(sets: &[ValueSet<N>], values: ValueSet<N>) -> bool
     ensures { result ≡ holds_over sets.now values.entry }
 {
-    !sets.is_empty() && (meets(sets[0], values) || lies_in_some(values, &sets[1..]))
-}
-
-// Whether two sets have a value in common.
-fn meets<const N: usize>(a: ValueSet<N>, b: ValueSet<N>) -> bool
-    ensures { result ≡ list_any (has a.entry) b.entry }
-{
-    let _mask = b.mask();
-    !a.meet(b).is_empty()
-}
-
-// Whether a set lies in one of the others.
-fn lies_in_some<const N: usize>(set: ValueSet<N>, others: &[ValueSet<N>]) -> bool
-    ensures { result ≡ list_any (λ other. list_all (has other) set.entry) others.now }
-{
-    for other in others {
-        if set.is_subset(*other) {
-            return true;
-        }
-    }
-    false
+    !sets.is_empty() && (sets[0].meets(values) || values.lies_in_some(&sets[1..]))
 }

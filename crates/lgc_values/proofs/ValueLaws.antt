@@ -1,9 +1,9 @@
 -- Laws of sets of truth values.
 use Rattle.std.proofs.Common.{◌≡◌, ℕ, ◌+◌, ◌-◌, ◌*◌, ◌/◌, ◌%◌, ◌^◌, ◌<◌, ◌≤◌, zero, suc, Bool, true, false, cond, ◌==◌, ◌&&◌, ◌||◌, not, List, [], ◌∷◌, refl, ap, sym, ◌∙◌, arith, ⊎_elim, ◌≢◌, Option, None, Some, IsTrue, ◌↔◌}
 use Rattle.std.specs.Prelude.{filter, nat_lt, nat_le, bit_or, bit_and, bit_xor, min, max}
-use Rattle.std.specs.List.{range_with_len, list_all}
+use Rattle.std.specs.List.{range_with_len, list_all, list_any}
 use Rattle.std.specs.Int.{bit_at}
-use Rattle.std.proofs.lemmas.Bool.{cases_eq, eqb-true, eq-eqb, ne_eqb, and_parts, or_cases}
+use Rattle.std.proofs.lemmas.Bool.{cases_eq, eqb-true, eq-eqb, ne_eqb, and_parts, or_cases, ltb-true}
 use Rattle.std.proofs.lemmas.Bool.Decides.{nat_tests, same_from_decides, Decides-eqb}
 use Rattle.std.proofs.lemmas.Nat.{or_lt, xor_lt, and_le_l}
 use Rattle.std.proofs.Math.Pow.{pow_mono, pow-lt, ones_lt, pow_pos}
@@ -135,11 +135,20 @@ complement_below n mask below le = xor_lt n (1 * 2 ^ n % 65536 - 1) mask (full_b
 pub contains_law : (n mask v : ℕ) (set : List ℕ) → members_of n mask ≡ set → v < n → (bit_and (mask / 2 ^ v) 1 == 1) ≡ has set v
 contains_law n mask v set is lt = rw (shr_and_one, ← is) (sym (has-members_of n mask v lt))
 
-pub without_law : (n mask v : ℕ) (set : List ℕ) → members_of n mask ≡ set → v < n → n ≤ MOST_VALUES → members_of n (bit_and mask (bit_xor (1 * 2 ^ n % 65536 - 1) (1 * 2 ^ v % 65536))) ≡ values_where n (λ w. has set w && not (w == v))
+filter-filter : (p q : ℕ → Bool) (xs : List ℕ) → filter q (filter p xs) ≡ filter (λ w. p w && q w) xs
+filter-filter p q [] = refl
+filter-filter p q (x ∷ xs) = pick (p x) (q x) refl (filter-filter p q xs) where
+  pick : (a b : Bool) → q x ≡ b → filter q (filter p xs) ≡ filter (λ w. p w && q w) xs → filter q (cond a (x ∷ filter p xs) (filter p xs)) ≡ cond (a && b) (x ∷ filter (λ w. p w && q w) xs) (filter (λ w. p w && q w) xs)
+  pick true true is rest = rw (is, rest) refl
+  pick true false is rest = rw (is, rest) refl
+  pick false b is rest = rest
+
+pub without_law : (n mask v : ℕ) (set : List ℕ) → members_of n mask ≡ set → v < n → n ≤ MOST_VALUES → members_of n (bit_and mask (bit_xor (1 * 2 ^ n % 65536 - 1) (1 * 2 ^ v % 65536))) ≡ filter (λ w. not (w == v)) set
 without_law n mask v set is lt le =
     rw (shl_one n le, shl_one v (omega arith), ← is)
-    (values_where-alike n (λ w. bit_at (bit_and mask (bit_xor (2 ^ n - 1) (2 ^ v))) w == 1) (λ w. has (members_of n mask) w && not (w == v))
-    (λ w below. rw (bit-and, bit-xor_full n (2 ^ v) w below, has-members_of n mask w below, bit-one) refl))
+    (values_where-alike n (λ w. bit_at (bit_and mask (bit_xor (2 ^ n - 1) (2 ^ v))) w == 1) (λ w. (bit_at mask w == 1) && not (w == v))
+    (λ w below. rw (bit-and, bit-xor_full n (2 ^ v) w below, bit-one) refl)
+    ∙ sym (filter-filter (λ w. bit_at mask w == 1) (λ w. not (w == v)) (range_with_len 0 n)))
 
 pub and_below : (n a b : ℕ) → a < 2 ^ n → bit_and a b < 2 ^ n
 and_below n a b lt = let le : bit_and a b ≤ a = and_le_l a b in omega arith
@@ -179,6 +188,36 @@ is_empty_law n mask set is lt = (
   (λ yes. let e : mask ≡ 0 = eqb-true mask 0 yes in sym is ∙ ap (members_of n) e ∙ empty_law n),
   (λ e. eq-eqb mask 0 (same_from_mask n mask 0 set [] is (empty_law n) lt (omega (arith, pow_pos n)) e)),
 )
+
+-- a test picks nothing from a list exactly when no item passes
+picks : (p q : ℕ → Bool) (xs : List ℕ) → (filter (λ w. q w && p w) xs ≡ [] → list_any q (filter p xs) ≡ false) × ((filter (λ w. q w && p w) xs ≡ [] → ⊥) → list_any q (filter p xs) ≡ true)
+picks p q [] = (λ _. refl, λ ne. absurd (ne refl))
+picks p q (x ∷ xs) = pick (p x) (q x) refl (picks p q xs) where
+  pick : (a b : Bool) → q x ≡ b
+      → ((filter (λ w. q w && p w) xs ≡ [] → list_any q (filter p xs) ≡ false) × ((filter (λ w. q w && p w) xs ≡ [] → ⊥) → list_any q (filter p xs) ≡ true))
+      → ((cond (b && a) (x ∷ filter (λ w. q w && p w) xs) (filter (λ w. q w && p w) xs) ≡ [] → list_any q (cond a (x ∷ filter p xs) (filter p xs)) ≡ false)
+      × ((cond (b && a) (x ∷ filter (λ w. q w && p w) xs) (filter (λ w. q w && p w) xs) ≡ [] → ⊥) → list_any q (cond a (x ∷ filter p xs) (filter p xs)) ≡ true))
+  pick true true is rest = (λ e. cc, λ _. rw is refl)
+  pick true false is rest = (λ e. rw is (rest.0 e), λ ne. rw is (rest.1 ne))
+  pick false true is rest = rest
+  pick false false is rest = rest
+
+-- sets have a value in common where the mask of their meet isn't 0
+pub meets_law : (n a b : ℕ) (xs ys : List ℕ) → members_of n a ≡ xs → members_of n b ≡ ys → a < 2 ^ n → not (bit_and a b == 0) ≡ list_any (has xs) ys
+meets_law n a b xs ys is is' lt =
+    let empty = is_empty_law n (bit_and a b) (members_of n (bit_and a b)) refl (and_below n a b lt) in
+    pick (bit_and a b == 0) empty.0 empty.1 where
+      same : members_of n (bit_and a b) ≡ values_where n (λ w. has xs w && (bit_at b w == 1))
+      same = meet_law n a b xs ys is is' ∙ values_where-alike n (λ w. has xs w && has ys w) (λ w. has xs w && (bit_at b w == 1)) (λ w lt. ap (λ t. has xs w && t) (ap (λ s. has s w) (sym is') ∙ has-members_of n b w lt))
+
+      parts : (values_where n (λ w. has xs w && (bit_at b w == 1)) ≡ [] → list_any (has xs) (members_of n b) ≡ false) × ((values_where n (λ w. has xs w && (bit_at b w == 1)) ≡ [] → ⊥) → list_any (has xs) (members_of n b) ≡ true)
+      parts = picks (λ w. bit_at b w == 1) (has xs) (range_with_len 0 n)
+
+      pick : (e : Bool) → (e ≡ true → members_of n (bit_and a b) ≡ []) → (members_of n (bit_and a b) ≡ [] → e ≡ true) → not e ≡ list_any (has xs) ys
+      pick true to from = sym (ap (list_any (has xs)) (sym is') ∙ parts.0 (sym same ∙ to refl))
+      pick false to from = sym (ap (list_any (has xs)) (sym is') ∙ parts.1 (λ e. differ (from (same ∙ e)))) where
+        differ : false ≡ true → ⊥
+        differ e = cc
 
 -- a set lies in another where the mask of their meet is its own
 all-filter : (a n : ℕ) (p q : ℕ → Bool) → ((v : ℕ) → a ≤ v → v < a + n → p v ≡ true → q v ≡ true) → list_all q (filter p (range_with_len a n)) ≡ true
@@ -225,3 +264,12 @@ mask_law n mask set is lt = rw (← is) (mask_of-members_of n mask lt)
 
 pub nonempty_law : (n mask : ℕ) (set : List ℕ) → members_of n mask ≡ set → set ≢ [] → 1 ≤ mask
 nonempty_law n mask set is some = ⊎_elim (λ (e : mask ≡ 0). absurd (some (sym is ∙ ap (members_of n) e ∙ empty_law n))) (λ (ne : mask ≡ 0 → ⊥). omega (arith, ne)) (cases_eq mask 0)
+
+-- a set whose mask isn't 0 has a member
+pub some_member : (n mask : ℕ) → mask < 2 ^ n → 1 ≤ mask → members_of n mask ≢ []
+some_member n mask lt pos e = let none : mask ≡ 0 = sym (mask_of-members_of n mask lt) ∙ ap mask_of e in omega (arith, pos, none)
+
+-- members are below n
+pub members_below : (n mask v : ℕ) (set : List ℕ) → members_of n mask ≡ set → has set v ≡ true → v < n
+members_below n mask v set is mem =
+    ltb-true v n (and_parts (nat_lt v n) (bit_at mask v == 1) (sym (has-values_where n (λ w. bit_at mask w == 1) v) ∙ ap (λ s. has s v) is ∙ mem)).0

@@ -26,6 +26,10 @@ mask_of (v ∷ set) = 2 ^ v + mask_of set
 abbrev pub members_of : ℕ → ℕ → List ℕ
 members_of n mask = values_where n (λ v. bit_at mask v == 1)
 
+-- the nonempty set of values that stands in a row of a quantifier's table, given by its index: the set whose mask is the index and one
+abbrev pub set_of_row : ℕ → ℕ → List ℕ
+set_of_row n row = members_of n (row + 1)
+
 -- v is the least value below n that passes a test
 pub record IsLeast (n : ℕ) (test : ℕ → Bool) (v : ℕ) : Type 0 where
   pub within : v < n

@@ -1,5 +1,6 @@
 // A finite-valued logic: its values' names, its designated values and the tables of its operators and quantifiers.
-ghost use Rattle.std.specs.Prelude.{◌≡◌, ◌≢◌, ◌<◌, ◌^◌, [], length};
+ghost use Rattle.std.specs.Prelude.{◌≡◌, ◌≢◌, ◌<◌, ◌-◌, ◌^◌, [], length};
+ghost use Rattle.lgc_values.specs.Values.{set_of_row};
 ghost use Rattle.lgc_values.specs.Logic.{IsLogic, Logic, row_count, value_at, value_over};
 
 use crate::{List, Name, ValueSet};
@@ -116,5 +117,15 @@ impl<const N: usize> Matrix<N> {
     {
         let quantifier = self.quantifiers.get(q as usize);
         quantifier.table.items()[set.mask() as usize - 1]
+    }
+
+    /// The nonempty set that stands in the row of a quantifier's table with this index, from 0.
+    pub fn set_of_row(&self, row: u32) -> ValueSet<N>
+        requires { row < 2 ^ self.now.size - 1 }
+        ensures set { result ≡ set_of_row self.now.size row }
+        ensures nonempty { result ≢ [] }
+    {
+        let _names = &self.names;
+        ValueSet::of_row(row)
     }
 }

@@ -1,7 +1,7 @@
 // A set of truth values below `N`, kept as a mask and seen as the rising list of its members.
-ghost use Rattle.std.specs.Prelude.{◌≡◌, ◌≢◌, ◌≤◌, ◌<◌, ◌^◌, ◌==◌, ◌||◌, ◌&&◌, ◌↔◌, [], ◌∷◌, ℕ, true, not, nat_lt, IsTrue};
-ghost use Rattle.std.specs.List.{list_all};
-ghost use Rattle.lgc_values.specs.Values.{IsSize, values_where, has, mask_of, members_of, Least, is_from};
+ghost use Rattle.std.specs.Prelude.{◌≡◌, ◌≢◌, ◌≤◌, ◌<◌, ◌-◌, ◌^◌, ◌==◌, ◌||◌, ◌&&◌, ◌↔◌, [], ◌∷◌, ℕ, true, not, filter, nat_lt, IsTrue};
+ghost use Rattle.std.specs.List.{list_all, list_any};
+ghost use Rattle.lgc_values.specs.Values.{IsSize, values_where, has, mask_of, members_of, set_of_row, Least, is_from};
 
 use std::marker::Model;
 
@@ -65,6 +65,19 @@ impl<const N: usize> ValueSet<N> {
         ValueSet { mask }
     }
 
+    /// The nonempty set that stands in the row of a quantifier's table with this index, from 0.
+    #[tactic(auto, using(crate::proofs::ValueLaws::some_member))]
+    pub fn of_row(row: u32) -> Self
+        requires size { IsSize N }
+        requires row { row < 2 ^ N - 1 }
+        ensures set { result ≡ set_of_row N row }
+        ensures nonempty { result ≢ [] }
+    {
+        ValueSet {
+            mask: row as u16 + 1,
+        }
+    }
+
     /// The set's mask. The further clauses tell what is true of each set.
     #[tactic(auto, using(crate::proofs::ValueLaws::mask_law, crate::proofs::ValueLaws::nonempty_law))]
     pub fn mask(self) -> u16
@@ -75,6 +88,17 @@ impl<const N: usize> ValueSet<N> {
         ensures size { IsSize N }
     {
         self.mask
+    }
+
+    /// The number of truth values, which is above each member.
+    #[tactic(auto, using(crate::proofs::ValueLaws::members_below))]
+    pub fn bound(self) -> u8
+        ensures bound { result ≡ N }
+        ensures below { (v : ℕ) → has self.entry v ≡ true → v < N }
+        ensures size { IsSize N }
+    {
+        let _mask = self.mask;
+        N as u8
     }
 
     /// The set with the value `v` added.
@@ -92,7 +116,7 @@ impl<const N: usize> ValueSet<N> {
     #[tactic(auto, using(crate::proofs::ValueLaws::without_law, crate::proofs::ValueLaws::and_below))]
     pub fn without(self, v: u8) -> Self
         requires { v < N }
-        ensures { result ≡ values_where N (λ w. has self.entry w && not (w == v)) }
+        ensures { result ≡ filter (λ w. not (w == v)) self.entry }
     {
         ValueSet {
             mask: self.mask & (((1 << N) - 1) ^ 1 << v),
@@ -143,6 +167,26 @@ impl<const N: usize> ValueSet<N> {
         ensures { result ≡ list_all (has other.entry) self.entry }
     {
         self.mask & other.mask == self.mask
+    }
+
+    /// Whether the sets have a value in common.
+    #[tactic(auto, using(crate::proofs::ValueLaws::meets_law))]
+    pub fn meets(self, other: Self) -> bool
+        ensures { result ≡ list_any (has self.entry) other.entry }
+    {
+        self.mask & other.mask != 0
+    }
+
+    /// Whether each member is one of some other set of the list.
+    pub fn lies_in_some(self, others: &[Self]) -> bool
+        ensures { result ≡ list_any (λ other. list_all (has other) self.entry) others.now }
+    {
+        for other in others {
+            if self.is_subset(*other) {
+                return true;
+            }
+        }
+        false
     }
 
     /// Whether all values are members.

@@ -2,7 +2,8 @@
 use Rattle.std.specs.Prelude.{◌≡◌, ℕ, ◌+◌, Bool, true, false, List, [], ◌∷◌, ◌++◌, map, codes, slice_index_or}
 use Rattle.std.specs.Fmt.{decimal}
 use Rattle.lgc_values.specs.Logic.{Logic, operator_at, arguments_at}
-use Rattle.lgc_clauses.specs.Rules.{Head, operator, quantifier, PlainRule, set_of_row}
+use Rattle.lgc_values.specs.Values.{set_of_row}
+use Rattle.lgc_clauses.specs.Rules.{Head, operator, quantifier, PlainRule}
 use Rattle.lgc_clauses.specs.Exactness.{IsExact, IsFirstDifference}
 use Rattle.lgc_clauses.specs.Irredundance.{IsIrredundant, IsFirstDroppable}
 use Rattle.lgc_clauses.specs.declared.irredundance.Part.{Part}

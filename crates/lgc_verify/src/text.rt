@@ -3,7 +3,8 @@ ghost use Rattle.std.specs.Prelude.{◌≡◌, ◌++◌, ◌<◌, ◌≤◌, ◌
 ghost use Rattle.lgc_values.specs.declared.TheConstants.{MOST_ROWS};
 ghost use Rattle.lgc_values.specs.Logic.{operator_at, arguments_at};
 ghost use Rattle.lgc_clauses.specs.Kinds.{plain_rule};
-ghost use Rattle.lgc_clauses.specs.Rules.{operator, set_of_row, rows_of, Fits};
+ghost use Rattle.lgc_values.specs.Values.{set_of_row};
+ghost use Rattle.lgc_clauses.specs.Rules.{operator, rows_of, Fits};
 ghost use Rattle.lgc_clauses.specs.Irredundance.{IsNumbered};
 ghost use Rattle.lgc_print.specs.Text.{set_text};
 ghost use Rattle.lgc_verify.specs.Verdicts.{IsVerdict, values_text, row_text, place_text, clause_label, part_text, verdict_text, line_text, IsRight, IsText};
@@ -11,7 +12,7 @@ ghost use Rattle.lgc_verify.specs.Verdicts.{IsVerdict, values_text, row_text, pl
 use crate::verdict::{Verdict, is_right, judge};
 use lgc_clauses::{Droppable, Part, Rule};
 use lgc_print::{put_number, put_set, put_value};
-use lgc_values::{Matrix, Name, ValueSet, argument_at};
+use lgc_values::{Matrix, Name, argument_at};
 use std::alloc::{AllocError, Global};
 
 /// The lines on rules, and whether all of the rules are right.
@@ -87,7 +88,7 @@ fn put_quantifier_row<const N: usize>(
     requires { row < 2 ^ m.now.size - 1 }
     ensures { OnOk result (into.new.items ≡ into.old.items ++ set_text m.now.names (set_of_row m.now.size row)) }
 {
-    put_set(m.names(), ValueSet::<N>::of_mask(row as u16 + 1), into)
+    put_set(m.names(), m.set_of_row(row), into)
 }
 
 fn put_row<const N: usize>(

@@ -1,11 +1,10 @@
 -- A settled value stays settled, and no value from N on is in the set.
-use Rattle.std.proofs.Common.{◌≡◌, ◌<◌, length, [], sym, ◌∙◌, below_more, arith}
+use Rattle.std.proofs.Common.{◌≡◌, ◌<◌, true, [], ap, ◌∙◌, below_more, arith}
 use Rattle.std.proofs.lemmas.List.{get_or_read}
-use Rattle.lgc_values.specs.Values.{members_of}
-use Rattle.lgc_clauses.proofs.Changes.{has_below}
+use Rattle.lgc_values.specs.Values.{has}
 use Rattle.lgc_clauses.specs.Irredundance.{set_at}
 use Rattle.lgc_derivation.specs.Derived.{IsSettled}
-use Rattle.lgc_derivation.proofs.Within.{within_trans}
+use Rattle.lgc_derivation.proofs.Within.{within_trans, within_at}
 use Rattle.lgc_derivation.proofs.Taking.{settled_within}
 use Rattle.lgc_derivation.proofs.shrinking.shrink_set.Goals as goal
 
@@ -24,7 +23,7 @@ loop-v-preserved g c =
 pub returns-clause-settled : goal.returns-clause-settled
 returns-clause-settled g c =
     λ v member.
-    let part : c.args.j < length c.loop-v.sets = omega arith in
-    let is : set_at c.loop-v.sets c.args.j ≡ members_of g.row.N c.mask-mask-2.result = sym (get_or_read c.loop-v.sets c.args.j c.index-sets-j-2.result part c.index-sets-j-2.is []) ∙ c.mask-mask-2.ensures.members in
-    let below : v < g.row.N = has_below g.row.N c.mask-mask-2.result v (set_at c.loop-v.sets c.args.j) is member in
+    let before : has (set_at c.args.sets.now c.args.j) v ≡ true = within_at c.loop-v.sets c.args.sets.now c.args.j v c.loop-v.invariant.within member in
+    let is : c.index-sets-j.result ≡ set_at c.args.sets.now c.args.j = get_or_read c.args.sets.now c.args.j c.index-sets-j.result c.requires.part c.index-sets-j.is [] in
+    let below : v < g.row.N = c.bound-v-end.ensures.below v (ap (λ s. has s v) is ∙ before) in
     c.loop-v.invariant.settled v (omega arith) member

@@ -1,8 +1,8 @@
 -- The table tells the quantifier's values, so what is exact and irredundant over it is so for the quantifier.
 use Rattle.std.proofs.Common.{◌≡◌, ℕ, ◌-◌, ◌^◌, ◌<◌, List, length, get_or, false, ap, sym, ◌∙◌, subst}
-use Rattle.lgc_values.specs.Values.{has}
+use Rattle.lgc_values.specs.Values.{has, set_of_row}
 use Rattle.lgc_values.specs.Logic.{value_over}
-use Rattle.lgc_clauses.specs.Rules.{of_quantifier, holds_over, set_of_row}
+use Rattle.lgc_clauses.specs.Rules.{of_quantifier, holds_over}
 use Rattle.lgc_clauses.specs.Exactness.{IsExact}
 use Rattle.lgc_clauses.specs.Irredundance.{IsIrredundant}
 use Rattle.lgc_derivation.proofs.Irredundance.{exact_alike, irredundant_alike}

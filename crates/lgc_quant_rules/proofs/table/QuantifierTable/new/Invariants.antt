@@ -1,8 +1,7 @@
 -- The rows before this one are told.
 use Rattle.std.proofs.Common.{ℕ, ◌<◌, ◌≡◌, false, length, get_or}
-use Rattle.lgc_values.specs.Values.{has}
+use Rattle.lgc_values.specs.Values.{has, set_of_row}
 use Rattle.lgc_values.specs.Logic.{value_over}
-use Rattle.lgc_clauses.specs.Rules.{set_of_row}
 use Rattle.lgc_quant_rules.proofs.table.QuantifierTable.new.Given as goal
 
 abbrev pub invariant-loop-row : goal.invariant-loop-row

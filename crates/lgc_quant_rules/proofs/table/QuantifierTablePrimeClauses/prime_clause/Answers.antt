@@ -3,7 +3,8 @@
 use Rattle.std.proofs.Common.{◌≡◌, ℕ, List, ◌<◌, ◌≤◌, ◌-◌, ◌^◌, false, true, length, get_or, arith, sym, ◌∙◌, subst, ap}
 use Rattle.std.proofs.lemmas.Bool.{both_ways}
 use Rattle.std.proofs.lemmas.List.{with_items_is}
-use Rattle.lgc_clauses.specs.Rules.{holds_over, set_of_row}
+use Rattle.lgc_values.specs.Values.{set_of_row}
+use Rattle.lgc_clauses.specs.Rules.{holds_over}
 use Rattle.lgc_derivation.proofs.Within.{within_length}
 use Rattle.lgc_quant_rules.specs.Quantifiers.{clause_against}
 use Rattle.lgc_quant_rules.specs.SetOrder.{IsOrderedClauseOf}
@@ -16,7 +17,7 @@ pub shrink-requires : goal.shrink-requires
 shrink-requires g c = (
   omega arith,
   λ row lt inside.
-      let start : c.deref_mut.result.now ≡ clause_against g.row.N (set_of_row g.row.N c.args.row) = c.deref_mut.ensures.value ∙ c.in_ok-sets.ensures ∙ ap (clause_against g.row.N) c.set_of_row.ensures.set in
+      let start : c.deref_mut.result.now ≡ clause_against g.row.N (set_of_row g.row.N c.args.row) = c.deref_mut.ensures.value ∙ c.in_ok-sets.ensures ∙ ap (clause_against g.row.N) c.of_row.ensures.set in
       let rows = c.args.self.now.rows in
       let within = c.requires.within in
       subst (λ (sets : List (List ℕ)). holds_over sets (set_of_row g.row.N row) ≡ true) (sym start)
@@ -27,7 +28,7 @@ shrink-requires g c = (
 
 pub returns-clause-prime : goal.returns-clause-prime
 returns-clause-prime g c =
-    let start : c.deref_mut.result.now ≡ clause_against g.row.N (set_of_row g.row.N c.args.row) = c.deref_mut.ensures.value ∙ c.in_ok-sets.ensures ∙ ap (clause_against g.row.N) c.set_of_row.ensures.set in
+    let start : c.deref_mut.result.now ≡ clause_against g.row.N (set_of_row g.row.N c.args.row) = c.deref_mut.ensures.value ∙ c.in_ok-sets.ensures ∙ ap (clause_against g.row.N) c.of_row.ensures.set in
     let count : length c.shrink.new.sets ≡ length c.deref_mut.result.now = within_length c.shrink.new.sets c.deref_mut.result.now c.shrink.ensures.within in
     let shrunk : c.deref.result.now ≡ c.shrink.new.sets = c.deref.ensures.value ∙ with_items_is c.in_ok-sets.sets c.shrink.new.sets (count ∙ c.deref_mut.ensures.len) in
     let order : IsOrderedClauseOf c.shrink.new.sets c.in_ok-in_order.field-0.items = subst (λ (sets : List (List ℕ)). IsOrderedClauseOf sets c.in_ok-in_order.field-0.items) shrunk c.in_ok-in_order.ensures in
@@ -37,7 +38,7 @@ returns-clause-prime g c =
 
 pub returns-clause-fails : goal.returns-clause-fails
 returns-clause-fails g c =
-    let start : c.deref_mut.result.now ≡ clause_against g.row.N (set_of_row g.row.N c.args.row) = c.deref_mut.ensures.value ∙ c.in_ok-sets.ensures ∙ ap (clause_against g.row.N) c.set_of_row.ensures.set in
+    let start : c.deref_mut.result.now ≡ clause_against g.row.N (set_of_row g.row.N c.args.row) = c.deref_mut.ensures.value ∙ c.in_ok-sets.ensures ∙ ap (clause_against g.row.N) c.of_row.ensures.set in
     let count : length c.shrink.new.sets ≡ length c.deref_mut.result.now = within_length c.shrink.new.sets c.deref_mut.result.now c.shrink.ensures.within in
     let shrunk : c.deref.result.now ≡ c.shrink.new.sets = c.deref.ensures.value ∙ with_items_is c.in_ok-sets.sets c.shrink.new.sets (count ∙ c.deref_mut.ensures.len) in
     let order : IsOrderedClauseOf c.shrink.new.sets c.in_ok-in_order.field-0.items = subst (λ (sets : List (List ℕ)). IsOrderedClauseOf sets c.in_ok-in_order.field-0.items) shrunk c.in_ok-in_order.ensures in

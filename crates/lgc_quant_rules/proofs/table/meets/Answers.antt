@@ -1,6 +1,0 @@
--- The sets have a value in common where their meet isn't empty.
-use Rattle.lgc_clauses.proofs.Sets.{meet_tells}
-use Rattle.lgc_quant_rules.proofs.table.meets.Goals as goal
-
-pub returns : goal.returns
-returns g c = meet_tells g.row.N c.mask-mask.result c.args.a c.args.b c.meet.result c.is_empty.result c.mask-mask.ensures.members c.meet.ensures c.is_empty.ensures.0 c.is_empty.ensures.1
