@@ -1,5 +1,5 @@
 -- The readers of rule files, line by line as their grammar.
-use Rattle.std.specs.Prelude.{ℕ, ◌+◌, ◌-◌, Bool, List, [], ◌∷◌, ◌++◌, length}
+use Rattle.std.specs.Prelude.{ℕ, ◌+◌, ◌-◌, Bool, List, [], ◌∷◌, ◌++◌, length, Option, Some, None}
 use Rattle.lgc_grammar.specs.Grammar.{fault_if}
 use Rattle.lgc_grammar.specs.Reading.{Reader, one_at, allowed_at, nothing_at, map_at, ◌>>=◌, ◌>>◌, either_at, optional_at, growing_at, Turn, onward, last, ending_at}
 use Rattle.lgc_values.specs.Logic.{Logic, operator_at}
@@ -77,6 +77,11 @@ unfoldable pub set_behind_at : Class → ℕ → Logic → Reader Spelled (List 
 set_behind_at word n logic = do
   one_at (is word)
   set_at n logic
+
+-- a turn to these `all` sets, or to the last one, a `some` set
+abbrev pub turn_of : List (List ℕ) → Option (List ℕ) → Turn (List (List ℕ)) (List (List ℕ))
+turn_of all None = onward all
+turn_of all (Some some) = last (some ∷ all)
 
 -- one more set, which is an `all` set or the last one
 abbrev pub next_set_at : ℕ → Logic → List (List ℕ) → Reader Spelled (Turn (List (List ℕ)) (List (List ℕ)))

@@ -10,7 +10,7 @@ ghost use Rattle.lgc_rules.specs.Gives.{Gives};
 
 use crate::class::Class;
 use crate::set::read_set;
-use crate::terminal::{Rest, Terminal, next_is, number_from, one};
+use crate::terminal::{Reading, Rest, Terminal, next_is, number_from, one};
 use lgc_clauses::Clause;
 use lgc_lexer::Token;
 use lgc_syntax::BAD_ARGUMENT;
@@ -55,8 +55,7 @@ fn literal<'a, const N: usize>(
         tokens,
     )?;
     let (_, rest) = one(bytes, Terminal::Only(Class::Caret), rest)?;
-    let mut set = m.designated();
-    let rest = read_set(m, bytes, &mut set, rest)?;
+    let (set, rest) = tried!(read_set(m, bytes, rest));
     pad(sets, argument as usize - 1)?;
     sets.push(set)?;
     Ok(rest)
@@ -103,62 +102,61 @@ fn more_literals<'a, const N: usize>(
 // One literal or more.
 #[tactic(auto, unfolding(crate::specs::RuleReading::literals_at))]
 fn literals<'a, const N: usize>(
+    alloc: Global,
     m: &Matrix<N>,
     bytes: &[u8],
     arity: u8,
-    sets: &mut List<ValueSet<N>>,
     tokens: &'a [Token],
-) -> Rest<'a>
-    requires inside { AllIn bytes.now tokens.now }
-    requires none { sets.old ≡ [] }
-    ensures gives { Gives bytes.now (λ x. (sets.new, spelled_all bytes.now x.now)) result (literals_at N m.now arity (spelled_all bytes.now tokens.now)) }
-    ensures rest { IfOk result (λ x. IsShorter bytes.now tokens.now x.now) }
+) -> Reading<'a, Clause<N>>
+    requires { AllIn bytes.now tokens.now }
+    ensures gives { Gives bytes.now (λ x. (x.0, spelled_all bytes.now x.1.now)) result (literals_at N m.now arity (spelled_all bytes.now tokens.now)) }
+    ensures rest { IfOk result (λ x. IsShorter bytes.now tokens.now x.1.now) }
 {
-    let rest = literal(m, bytes, arity, Terminal::Argument, sets, tokens)?;
-    let rest = more_literals(m, bytes, arity, sets, rest)?;
+    let mut sets = List::new(alloc);
+    let rest = literal(m, bytes, arity, Terminal::Argument, &mut sets, tokens)?;
+    let rest = more_literals(m, bytes, arity, &mut sets, rest)?;
     let _designated = m.designated();
-    pad(sets, usize::from(arity))?;
-    Ok(rest)
+    pad(&mut sets, usize::from(arity))?;
+    Ok((Clause { sets }, rest))
 }
 
 // The clause without literals.
 #[tactic(auto, unfolding(crate::specs::RuleReading::empty_clause_at))]
 fn empty_clause<'a, const N: usize>(
+    alloc: Global,
     m: &Matrix<N>,
     bytes: &[u8],
     arity: u8,
-    sets: &mut List<ValueSet<N>>,
     tokens: &'a [Token],
-) -> Rest<'a>
-    requires inside { AllIn bytes.now tokens.now }
-    requires none { sets.old ≡ [] }
-    ensures gives { Gives bytes.now (λ x. (sets.new, spelled_all bytes.now x.now)) result (empty_clause_at arity (spelled_all bytes.now tokens.now)) }
-    ensures rest { IfOk result (λ x. IsShorter bytes.now tokens.now x.now) }
+) -> Reading<'a, Clause<N>>
+    requires { AllIn bytes.now tokens.now }
+    ensures gives { Gives bytes.now (λ x. (x.0, spelled_all bytes.now x.1.now)) result (empty_clause_at arity (spelled_all bytes.now tokens.now)) }
+    ensures rest { IfOk result (λ x. IsShorter bytes.now tokens.now x.1.now) }
 {
     let (_, rest) = one(bytes, Terminal::Only(Class::Zero), tokens)?;
+    let mut sets = List::new(alloc);
     let _designated = m.designated();
-    pad(sets, usize::from(arity))?;
-    Ok(rest)
+    pad(&mut sets, usize::from(arity))?;
+    Ok((Clause { sets }, rest))
 }
 
 // A clause: the set of each argument.
 #[tactic(auto, unfolding(crate::specs::RuleReading::clause_at))]
 fn clause<'a, const N: usize>(
+    alloc: Global,
     m: &Matrix<N>,
     bytes: &[u8],
     arity: u8,
-    sets: &mut List<ValueSet<N>>,
     tokens: &'a [Token],
-) -> Rest<'a>
-    requires inside { AllIn bytes.now tokens.now }
-    requires none { sets.old ≡ [] }
-    ensures gives { Gives bytes.now (λ x. (sets.new, spelled_all bytes.now x.now)) result (clause_at N m.now arity (spelled_all bytes.now tokens.now)) }
-    ensures rest { IfOk result (λ x. IsShorter bytes.now tokens.now x.now) }
+) -> Reading<'a, Clause<N>>
+    requires { AllIn bytes.now tokens.now }
+    ensures gives { Gives bytes.now (λ x. (x.0, spelled_all bytes.now x.1.now)) result (clause_at N m.now arity (spelled_all bytes.now tokens.now)) }
+    ensures rest { IfOk result (λ x. IsShorter bytes.now tokens.now x.1.now) }
 {
     if next_is(bytes, Terminal::Only(Class::Zero), tokens) {
-        empty_clause(m, bytes, arity, sets, tokens)
+        empty_clause(alloc, m, bytes, arity, tokens)
     } else {
-        literals(m, bytes, arity, sets, tokens)
+        literals(alloc, m, bytes, arity, tokens)
     }
 }
 
@@ -176,10 +174,8 @@ fn next_clause<'a, const N: usize>(
     ensures rest { IfOk result (λ x. IsShorter bytes.now tokens.now x.now) }
 {
     let (_, rest) = one(bytes, Terminal::Only(Class::Semicolon), tokens)?;
-    let mut sets = List::new(alloc);
-    let rest = clause(m, bytes, arity, &mut sets, rest)?;
-    let _designated = m.designated();
-    clauses.push(Clause { sets })?;
+    let (next, rest) = clause(alloc, m, bytes, arity, rest)?;
+    clauses.push(next)?;
     Ok(rest)
 }
 
@@ -210,39 +206,35 @@ fn some_clauses<'a, const N: usize>(
     m: &Matrix<N>,
     bytes: &[u8],
     arity: u8,
-    clauses: &mut List<Clause<N>>,
     tokens: &'a [Token],
-) -> Rest<'a>
-    requires inside { AllIn bytes.now tokens.now }
-    requires none { clauses.old ≡ [] }
-    ensures gives { Gives bytes.now (λ x. (clauses.new, spelled_all bytes.now x.now)) result (some_clauses_at (clause_at N m.now arity) (spelled_all bytes.now tokens.now)) }
-    ensures rest { IfOk result (λ x. IsRest bytes.now tokens.now x.now) }
+) -> Reading<'a, List<Clause<N>>>
+    requires { AllIn bytes.now tokens.now }
+    ensures gives { Gives bytes.now (λ x. (x.0, spelled_all bytes.now x.1.now)) result (some_clauses_at (clause_at N m.now arity) (spelled_all bytes.now tokens.now)) }
+    ensures rest { IfOk result (λ x. IsRest bytes.now tokens.now x.1.now) }
 {
-    let mut sets = List::new(alloc);
-    let rest = clause(m, bytes, arity, &mut sets, tokens)?;
-    let _designated = m.designated();
-    clauses.push(Clause { sets })?;
-    more_clauses(alloc, m, bytes, arity, clauses, rest)
+    let (first, rest) = clause(alloc, m, bytes, arity, tokens)?;
+    let mut clauses = List::new(alloc);
+    clauses.push(first)?;
+    let rest = more_clauses(alloc, m, bytes, arity, &mut clauses, rest)?;
+    Ok((clauses, rest))
 }
 
-/// Reads clauses with semicolons between them, or none.
+/// Clauses with semicolons between them, or none.
 #[tactic(auto, unfolding(crate::specs::RuleReading::clauses_at))]
 pub(crate) fn read_clauses<'a, const N: usize>(
     alloc: Global,
     m: &Matrix<N>,
     bytes: &[u8],
     arity: u8,
-    clauses: &mut List<Clause<N>>,
     tokens: &'a [Token],
-) -> Rest<'a>
-    requires inside { AllIn bytes.now tokens.now }
-    requires none { clauses.old ≡ [] }
-    ensures gives { Gives bytes.now (λ x. (clauses.new, spelled_all bytes.now x.now)) result (clauses_at is_number (clause_at N m.now arity) (spelled_all bytes.now tokens.now)) }
-    ensures rest { IfOk result (λ x. IsRest bytes.now tokens.now x.now) }
+) -> Reading<'a, List<Clause<N>>>
+    requires { AllIn bytes.now tokens.now }
+    ensures gives { Gives bytes.now (λ x. (x.0, spelled_all bytes.now x.1.now)) result (clauses_at is_number (clause_at N m.now arity) (spelled_all bytes.now tokens.now)) }
+    ensures rest { IfOk result (λ x. IsRest bytes.now tokens.now x.1.now) }
 {
     if next_is(bytes, Terminal::Number, tokens) {
-        some_clauses(alloc, m, bytes, arity, clauses, tokens)
+        some_clauses(alloc, m, bytes, arity, tokens)
     } else {
-        Ok(tokens)
+        Ok((List::new(alloc), tokens))
     }
 }

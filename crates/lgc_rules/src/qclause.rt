@@ -4,7 +4,7 @@ ghost use Rattle.lgc_values.specs.Values.{IsSize};
 ghost use Rattle.lgc_lexer.specs.Spans.{AllIn};
 ghost use Rattle.lgc_rules.specs.Spelled.{spelled_all, IsRest, IsShorter};
 ghost use Rattle.lgc_rules.specs.Classes.{starts_quantifier_clause};
-ghost use Rattle.lgc_grammar.specs.Reading.{onward, last};
+ghost use Rattle.lgc_rules.specs.RuleReading.{turn_of};
 ghost use Rattle.lgc_rules.specs.RuleReading.{set_behind_at, next_set_at, more_sets_at, all_sets_at, some_alone_at, no_sets_at, quantifier_clause_at, next_clause_at, more_clauses_at, some_clauses_at, clauses_at};
 ghost use Rattle.lgc_rules.specs.Gives.{Gives};
 
@@ -22,38 +22,35 @@ fn set_behind<'a, const N: usize>(
     m: &Matrix<N>,
     bytes: &[u8],
     word: Class,
-    set: &mut ValueSet<N>,
     tokens: &'a [Token],
-) -> Rest<'a>
+) -> Reading<'a, ValueSet<N>>
     requires { AllIn bytes.now tokens.now }
-    ensures gives { Gives bytes.now (λ x. (set.new, spelled_all bytes.now x.now)) result (set_behind_at word N m.now (spelled_all bytes.now tokens.now)) }
-    ensures rest { IfOk result (λ x. IsShorter bytes.now tokens.now x.now) }
+    ensures gives { Gives bytes.now (λ x. (x.0, spelled_all bytes.now x.1.now)) result (set_behind_at word N m.now (spelled_all bytes.now tokens.now)) }
+    ensures rest { IfOk result (λ x. IsShorter bytes.now tokens.now x.1.now) }
 {
     let (_, rest) = one(bytes, Terminal::Only(word), tokens)?;
-    read_set(m, bytes, set, rest)
+    read_set(m, bytes, rest)
 }
 
-// A comma and one more set: an `all` set, or the `some` set, which is the last. Whether it is the last.
+// A comma and one more set: an `all` set, which is appended, or the `some` set, which is the last.
 fn next_set<'a, const N: usize>(
     m: &Matrix<N>,
     bytes: &[u8],
     all: &mut List<ValueSet<N>>,
-    some: &mut ValueSet<N>,
     tokens: &'a [Token],
-) -> Reading<'a, bool>
+) -> Reading<'a, Option<ValueSet<N>>>
     requires { AllIn bytes.now tokens.now }
-    ensures gives { Gives bytes.now (λ x. (if x.0 then last (some.new ∷ all.new) else onward all.new, spelled_all bytes.now x.1.now)) result (next_set_at N m.now all.old (spelled_all bytes.now tokens.now)) }
+    ensures gives { Gives bytes.now (λ x. (turn_of all.new x.0, spelled_all bytes.now x.1.now)) result (next_set_at N m.now all.old (spelled_all bytes.now tokens.now)) }
     ensures rest { IfOk result (λ x. IsShorter bytes.now tokens.now x.1.now) }
 {
     let (_, rest) = one(bytes, Terminal::Only(Class::Comma), tokens)?;
     if next_is(bytes, Terminal::Only(Class::AllWord), rest) {
-        let mut set = m.designated();
-        let rest = set_behind(m, bytes, Class::AllWord, &mut set, rest)?;
+        let (set, rest) = tried!(set_behind(m, bytes, Class::AllWord, rest));
         all.push(set)?;
-        Ok((false, rest))
+        Ok((None, rest))
     } else {
-        let rest = set_behind(m, bytes, Class::SomeWord, some, rest)?;
-        Ok((true, rest))
+        let (some, rest) = tried!(set_behind(m, bytes, Class::SomeWord, rest));
+        Ok((Some(some), rest))
     }
 }
 
@@ -62,103 +59,97 @@ fn more_sets<'a, const N: usize>(
     m: &Matrix<N>,
     bytes: &[u8],
     all: &mut List<ValueSet<N>>,
-    some: &mut ValueSet<N>,
     tokens: &'a [Token],
-) -> Rest<'a>
+) -> Reading<'a, ValueSet<N>>
     requires { AllIn bytes.now tokens.now }
-    ensures gives { Gives bytes.now (λ x. (some.new ∷ all.new, spelled_all bytes.now x.now)) result (more_sets_at N m.now all.old (spelled_all bytes.now tokens.now)) }
-    ensures rest { IfOk result (λ x. IsRest bytes.now tokens.now x.now) }
+    ensures gives { Gives bytes.now (λ x. (x.0 ∷ all.new, spelled_all bytes.now x.1.now)) result (more_sets_at N m.now all.old (spelled_all bytes.now tokens.now)) }
+    ensures rest { IfOk result (λ x. IsRest bytes.now tokens.now x.1.now) }
 {
     let mut rest = tokens;
     while next_is(bytes, Terminal::Only(Class::Comma), rest) {
-        let (last, behind) = next_set(m, bytes, all, some, rest)?;
-        if last {
-            return Ok(behind);
+        let (last, behind) = tried!(next_set(m, bytes, all, rest));
+        if let Some(some) = last {
+            return Ok((some, behind));
         }
         rest = behind;
     }
     let _designated = m.designated();
-    *some = ValueSet::empty();
-    Ok(rest)
+    Ok((ValueSet::empty(), rest))
 }
 
 // One `all` set or more, and the `some` set.
 #[tactic(auto, unfolding(crate::specs::RuleReading::all_sets_at))]
 fn all_sets<'a, const N: usize>(
+    alloc: Global,
     m: &Matrix<N>,
     bytes: &[u8],
-    all: &mut List<ValueSet<N>>,
-    some: &mut ValueSet<N>,
     tokens: &'a [Token],
-) -> Rest<'a>
-    requires inside { AllIn bytes.now tokens.now }
-    requires none { all.old ≡ [] }
-    ensures gives { Gives bytes.now (λ x. (some.new ∷ all.new, spelled_all bytes.now x.now)) result (all_sets_at N m.now (spelled_all bytes.now tokens.now)) }
-    ensures rest { IfOk result (λ x. IsShorter bytes.now tokens.now x.now) }
+) -> Reading<'a, QClause<N>>
+    requires { AllIn bytes.now tokens.now }
+    ensures gives { Gives bytes.now (λ x. (x.0, spelled_all bytes.now x.1.now)) result (all_sets_at N m.now (spelled_all bytes.now tokens.now)) }
+    ensures rest { IfOk result (λ x. IsShorter bytes.now tokens.now x.1.now) }
 {
-    let mut set = m.designated();
-    let rest = set_behind(m, bytes, Class::AllWord, &mut set, tokens)?;
+    let (set, rest) = tried!(set_behind(m, bytes, Class::AllWord, tokens));
+    let mut all = List::new(alloc);
     all.push(set)?;
-    more_sets(m, bytes, all, some, rest)
+    let (some, rest) = tried!(more_sets(m, bytes, &mut all, rest));
+    Ok((QClause { all, some }, rest))
 }
 
 // The `some` set alone.
 #[tactic(auto, unfolding(crate::specs::RuleReading::some_alone_at))]
 fn some_alone<'a, const N: usize>(
+    alloc: Global,
     m: &Matrix<N>,
     bytes: &[u8],
-    all: &mut List<ValueSet<N>>,
-    some: &mut ValueSet<N>,
     tokens: &'a [Token],
-) -> Rest<'a>
-    requires inside { AllIn bytes.now tokens.now }
-    requires none { all.old ≡ [] }
-    ensures gives { Gives bytes.now (λ x. (some.new ∷ all.new, spelled_all bytes.now x.now)) result (some_alone_at N m.now (spelled_all bytes.now tokens.now)) }
-    ensures rest { IfOk result (λ x. IsShorter bytes.now tokens.now x.now) }
+) -> Reading<'a, QClause<N>>
+    requires { AllIn bytes.now tokens.now }
+    ensures gives { Gives bytes.now (λ x. (x.0, spelled_all bytes.now x.1.now)) result (some_alone_at N m.now (spelled_all bytes.now tokens.now)) }
+    ensures rest { IfOk result (λ x. IsShorter bytes.now tokens.now x.1.now) }
 {
-    set_behind(m, bytes, Class::SomeWord, some, tokens)
+    let (some, rest) = tried!(set_behind(m, bytes, Class::SomeWord, tokens));
+    let all = List::new(alloc);
+    Ok((QClause { all, some }, rest))
 }
 
 // The clause without sets.
 #[tactic(auto, unfolding(crate::specs::RuleReading::no_sets_at))]
 fn no_sets<'a, const N: usize>(
+    alloc: Global,
     m: &Matrix<N>,
     bytes: &[u8],
-    all: &mut List<ValueSet<N>>,
-    some: &mut ValueSet<N>,
     tokens: &'a [Token],
-) -> Rest<'a>
-    requires inside { AllIn bytes.now tokens.now }
-    requires none { all.old ≡ [] }
-    ensures gives { Gives bytes.now (λ x. (some.new ∷ all.new, spelled_all bytes.now x.now)) result (no_sets_at (spelled_all bytes.now tokens.now)) }
-    ensures rest { IfOk result (λ x. IsShorter bytes.now tokens.now x.now) }
+) -> Reading<'a, QClause<N>>
+    requires { AllIn bytes.now tokens.now }
+    ensures gives { Gives bytes.now (λ x. (x.0, spelled_all bytes.now x.1.now)) result (no_sets_at (spelled_all bytes.now tokens.now)) }
+    ensures rest { IfOk result (λ x. IsShorter bytes.now tokens.now x.1.now) }
 {
     let (_, rest) = one(bytes, Terminal::Zero, tokens)?;
+    let all = List::new(alloc);
     let _designated = m.designated();
-    *some = ValueSet::empty();
-    Ok(rest)
+    let some = ValueSet::empty();
+    Ok((QClause { all, some }, rest))
 }
 
 // A clause: its `all` sets and its `some` set.
 #[tactic(auto, unfolding(crate::specs::RuleReading::quantifier_clause_at))]
 fn quantifier_clause<'a, const N: usize>(
+    alloc: Global,
     m: &Matrix<N>,
     bytes: &[u8],
-    all: &mut List<ValueSet<N>>,
-    some: &mut ValueSet<N>,
     tokens: &'a [Token],
-) -> Rest<'a>
-    requires inside { AllIn bytes.now tokens.now }
-    requires none { all.old ≡ [] }
-    ensures gives { Gives bytes.now (λ x. (some.new ∷ all.new, spelled_all bytes.now x.now)) result (quantifier_clause_at N m.now (spelled_all bytes.now tokens.now)) }
-    ensures rest { IfOk result (λ x. IsShorter bytes.now tokens.now x.now) }
+) -> Reading<'a, QClause<N>>
+    requires { AllIn bytes.now tokens.now }
+    ensures gives { Gives bytes.now (λ x. (x.0, spelled_all bytes.now x.1.now)) result (quantifier_clause_at N m.now (spelled_all bytes.now tokens.now)) }
+    ensures rest { IfOk result (λ x. IsShorter bytes.now tokens.now x.1.now) }
 {
     if next_is(bytes, Terminal::Zero, tokens) {
-        no_sets(m, bytes, all, some, tokens)
+        no_sets(alloc, m, bytes, tokens)
     } else if next_is(bytes, Terminal::Only(Class::AllWord), tokens) {
-        all_sets(m, bytes, all, some, tokens)
+        all_sets(alloc, m, bytes, tokens)
     } else {
-        some_alone(m, bytes, all, some, tokens)
+        some_alone(alloc, m, bytes, tokens)
     }
 }
 
@@ -175,10 +166,8 @@ fn next_clause<'a, const N: usize>(
     ensures rest { IfOk result (λ x. IsShorter bytes.now tokens.now x.now) }
 {
     let (_, rest) = one(bytes, Terminal::Only(Class::Semicolon), tokens)?;
-    let mut all = List::new(alloc);
-    let mut some = m.designated();
-    let rest = quantifier_clause(m, bytes, &mut all, &mut some, rest)?;
-    clauses.push(QClause { all, some })?;
+    let (next, rest) = quantifier_clause(alloc, m, bytes, rest)?;
+    clauses.push(next)?;
     Ok(rest)
 }
 
@@ -207,38 +196,34 @@ fn some_clauses<'a, const N: usize>(
     alloc: Global,
     m: &Matrix<N>,
     bytes: &[u8],
-    clauses: &mut List<QClause<N>>,
     tokens: &'a [Token],
-) -> Rest<'a>
-    requires inside { AllIn bytes.now tokens.now }
-    requires none { clauses.old ≡ [] }
-    ensures gives { Gives bytes.now (λ x. (clauses.new, spelled_all bytes.now x.now)) result (some_clauses_at (quantifier_clause_at N m.now) (spelled_all bytes.now tokens.now)) }
-    ensures rest { IfOk result (λ x. IsRest bytes.now tokens.now x.now) }
+) -> Reading<'a, List<QClause<N>>>
+    requires { AllIn bytes.now tokens.now }
+    ensures gives { Gives bytes.now (λ x. (x.0, spelled_all bytes.now x.1.now)) result (some_clauses_at (quantifier_clause_at N m.now) (spelled_all bytes.now tokens.now)) }
+    ensures rest { IfOk result (λ x. IsRest bytes.now tokens.now x.1.now) }
 {
-    let mut all = List::new(alloc);
-    let mut some = m.designated();
-    let rest = quantifier_clause(m, bytes, &mut all, &mut some, tokens)?;
-    clauses.push(QClause { all, some })?;
-    more_clauses(alloc, m, bytes, clauses, rest)
+    let (first, rest) = quantifier_clause(alloc, m, bytes, tokens)?;
+    let mut clauses = List::new(alloc);
+    clauses.push(first)?;
+    let rest = more_clauses(alloc, m, bytes, &mut clauses, rest)?;
+    Ok((clauses, rest))
 }
 
-/// Reads clauses with semicolons between them, or none.
+/// Clauses with semicolons between them, or none.
 #[tactic(auto, unfolding(crate::specs::RuleReading::clauses_at))]
 pub(crate) fn read_quantifier_clauses<'a, const N: usize>(
     alloc: Global,
     m: &Matrix<N>,
     bytes: &[u8],
-    clauses: &mut List<QClause<N>>,
     tokens: &'a [Token],
-) -> Rest<'a>
-    requires inside { AllIn bytes.now tokens.now }
-    requires none { clauses.old ≡ [] }
-    ensures gives { Gives bytes.now (λ x. (clauses.new, spelled_all bytes.now x.now)) result (clauses_at starts_quantifier_clause (quantifier_clause_at N m.now) (spelled_all bytes.now tokens.now)) }
-    ensures rest { IfOk result (λ x. IsRest bytes.now tokens.now x.now) }
+) -> Reading<'a, List<QClause<N>>>
+    requires { AllIn bytes.now tokens.now }
+    ensures gives { Gives bytes.now (λ x. (x.0, spelled_all bytes.now x.1.now)) result (clauses_at starts_quantifier_clause (quantifier_clause_at N m.now) (spelled_all bytes.now tokens.now)) }
+    ensures rest { IfOk result (λ x. IsRest bytes.now tokens.now x.1.now) }
 {
     if next_is(bytes, Terminal::QuantifierClause, tokens) {
-        some_clauses(alloc, m, bytes, clauses, tokens)
+        some_clauses(alloc, m, bytes, tokens)
     } else {
-        Ok(tokens)
+        Ok((List::new(alloc), tokens))
     }
 }

@@ -17,7 +17,7 @@ use crate::terminal::{Reading, Terminal, is_a, next_is, number_from, one};
 use lgc_clauses::{OpRule, QRule, Rule};
 use lgc_lexer::{Token, content};
 use lgc_syntax::{MISNUMBERED, UNKNOWN_NAME, WRONG_ARITY};
-use lgc_values::{List, Matrix, Operator, Quantifier};
+use lgc_values::{Matrix, Operator, Quantifier};
 use std::alloc::Global;
 
 /// A rule with the number that is written before it.
@@ -169,12 +169,10 @@ fn of_operator<'a, const N: usize>(
 {
     let (op, rest) = operator_head(m, bytes, tokens)?;
     let (_, rest) = one(bytes, Terminal::Only(Class::AtWord), rest)?;
-    let mut sign = m.designated();
-    let rest = read_set(m, bytes, &mut sign, rest)?;
+    let (sign, rest) = tried!(read_set(m, bytes, rest));
     let (_, rest) = one(bytes, Terminal::Only(Class::Colon), rest)?;
     let (_, rest) = one(bytes, Terminal::Only(Class::OpenSquare), rest)?;
-    let mut clauses = List::new(alloc);
-    let rest = read_clauses(alloc, m, bytes, arity_of(m, op), &mut clauses, rest)?;
+    let (clauses, rest) = read_clauses(alloc, m, bytes, arity_of(m, op), rest)?;
     let (_, rest) = one(bytes, Terminal::Only(Class::CloseSquare), rest)?;
     let (_, rest) = one(bytes, Terminal::Only(Class::Dot), rest)?;
     Ok((Rule::Operator(OpRule { op, sign, clauses }), rest))
@@ -194,12 +192,10 @@ fn of_quantifier<'a, const N: usize>(
 {
     let (quant, rest) = quantifier_head(m, bytes, tokens)?;
     let (_, rest) = one(bytes, Terminal::Only(Class::AtWord), rest)?;
-    let mut sign = m.designated();
-    let rest = read_set(m, bytes, &mut sign, rest)?;
+    let (sign, rest) = tried!(read_set(m, bytes, rest));
     let (_, rest) = one(bytes, Terminal::Only(Class::Colon), rest)?;
     let (_, rest) = one(bytes, Terminal::Only(Class::OpenSquare), rest)?;
-    let mut clauses = List::new(alloc);
-    let rest = read_quantifier_clauses(alloc, m, bytes, &mut clauses, rest)?;
+    let (clauses, rest) = read_quantifier_clauses(alloc, m, bytes, rest)?;
     let (_, rest) = one(bytes, Terminal::Only(Class::CloseSquare), rest)?;
     let (_, rest) = one(bytes, Terminal::Only(Class::Dot), rest)?;
     let rule = QRule {

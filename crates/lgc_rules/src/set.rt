@@ -90,22 +90,21 @@ fn more_values<'a, const N: usize>(
     Ok(rest)
 }
 
-/// Reads a set of truth values in braces, which may stand in any order and repeat.
+/// A set of truth values in braces, which may stand in any order and repeat.
 #[tactic(auto, unfolding(crate::specs::RuleReading::set_at))]
 pub(crate) fn read_set<'a, const N: usize>(
     m: &Matrix<N>,
     bytes: &[u8],
-    set: &mut ValueSet<N>,
     tokens: &'a [Token],
-) -> Rest<'a>
+) -> Reading<'a, ValueSet<N>>
     requires { AllIn bytes.now tokens.now }
-    ensures gives { Gives bytes.now (λ x. (set.new, spelled_all bytes.now x.now)) result (set_at N m.now (spelled_all bytes.now tokens.now)) }
-    ensures rest { IfOk result (λ x. IsShorter bytes.now tokens.now x.now) }
+    ensures gives { Gives bytes.now (λ x. (x.0, spelled_all bytes.now x.1.now)) result (set_at N m.now (spelled_all bytes.now tokens.now)) }
+    ensures rest { IfOk result (λ x. IsShorter bytes.now tokens.now x.1.now) }
 {
     let (_, rest) = one(bytes, Terminal::Only(Class::OpenBrace), tokens)?;
     let (value, rest) = value(m, bytes, rest)?;
-    *set = ValueSet::single(value);
-    let rest = more_values(m, bytes, set, rest)?;
+    let mut set = ValueSet::single(value);
+    let rest = more_values(m, bytes, &mut set, rest)?;
     let (_, rest) = one(bytes, Terminal::Only(Class::CloseBrace), rest)?;
-    Ok(rest)
+    Ok((set, rest))
 }
