@@ -7,7 +7,7 @@
 //!   of them in one of the `all` sets: [`qclause_true_at`].
 //! - An [`OpRule`] or a [`QRule`] is a list of clauses for an operator or a quantifier and a sign, which is
 //!   a set of truth values. Read as an introduction rule it has one premise for each clause. A [`Rule`] is
-//!   a rule of any kind.
+//!   a rule of any kind, and a [`Numbered`] one with a number before it.
 //! - [`rule_exact`] tells whether a rule is exact: at every row, and for a quantifier at every nonempty set,
 //!   the value lies in the sign exactly when every clause is true. Else it gives the least row at which
 //!   that fails.
@@ -29,4 +29,4 @@ mod table;
 pub use clause::{Clause, QClause, clause_true_at, qclause_true_at};
 pub use exactness::rule_exact;
 pub use irredundance::{Droppable, Part, rule_irredundant};
-pub use rule::{OpRule, QRule, Rule};
+pub use rule::{Numbered, OpRule, QRule, Rule};

@@ -41,3 +41,10 @@ pub enum Rule<const N: usize> {
     Operator(OpRule<N>),
     Quantifier(QRule<N>),
 }
+
+/// A rule with the number that is written before it.
+#[derive(Debug, Drop)]
+pub struct Numbered<const N: usize> {
+    pub number: u32,
+    pub rule: Rule<N>,
+}

@@ -11,4 +11,5 @@
 
 mod rules;
 
+pub use lgc_clauses::Numbered;
 pub use rules::{calculus_text, put_number, put_set, put_value, write_rule};

@@ -10,11 +10,11 @@ use Rattle.lgc_values.specs.declared.matrix.Quantifier.{Quantifier}
 use Rattle.lgc_values.specs.Logic.{Logic, IsLogic, IsOperator, IsQuantifier, operator_at, quantifier_at}
 use Rattle.lgc_clauses.specs.Rules.{Head, operator, quantifier, PlainRule, IsClauseOf, Fits, of_operator, of_quantifier}
 use Rattle.lgc_clauses.specs.declared.rule.Rule.{Rule}
+use Rattle.lgc_clauses.specs.declared.rule.Numbered.{Numbered}
 use Rattle.lgc_clauses.specs.declared.rule.Rule.TheVariants as rule
 use Rattle.lgc_clauses.specs.Kinds.{plain_rule}
 use Rattle.lgc_print.specs.Text.{joined, calculus_text}
 use Rattle.lgc_syntax.specs.declared.fault.TheConstants.{UNKNOWN_NAME, WRONG_ARITY, MISNUMBERED}
-use Rattle.lgc_rules.specs.declared.rule.Numbered.{Numbered}
 use Rattle.lgc_rules.specs.Spelled.{Spelled, spelled_all}
 use Rattle.lgc_rules.specs.Classes.{is_name, is_number}
 use Rattle.lgc_rules.specs.Names.{operator_of, quantifier_of, names_no_operator, names_no_quantifier}

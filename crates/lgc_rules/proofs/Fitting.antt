@@ -16,8 +16,8 @@ use Rattle.lgc_values.proofs.ValueLaws.{has-values_where}
 use Rattle.lgc_clauses.specs.Rules.{Head, operator, quantifier, IsClauseOf}
 use Rattle.lgc_clauses.specs.Irredundance.{set_number}
 use Rattle.lgc_clauses.specs.declared.rule.Rule.{Rule}
+use Rattle.lgc_clauses.specs.declared.rule.Numbered.{Numbered}
 use Rattle.lgc_syntax.specs.declared.fault.TheConstants.{UNKNOWN_NAME, WRONG_ARITY, UNKNOWN_VALUE, BAD_ARGUMENT}
-use Rattle.lgc_rules.specs.declared.rule.Numbered.{Numbered}
 use Rattle.lgc_rules.specs.declared.number.TheConstants.{MOST_NUMBER}
 use Rattle.lgc_rules.specs.Numbers.{number_in, writes_number}
 use Rattle.lgc_rules.specs.Spelled.{Spelled}

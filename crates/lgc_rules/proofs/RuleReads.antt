@@ -9,8 +9,8 @@ use Rattle.lgc_grammar.proofs.Sequences.{then_reads, then_reads_if}
 use Rattle.lgc_grammar.proofs.Choices.{either_reads, optional_reads}
 use Rattle.lgc_values.specs.Logic.{Logic, operator_at}
 use Rattle.lgc_clauses.specs.declared.rule.Rule.{Rule}
+use Rattle.lgc_clauses.specs.declared.rule.Numbered.{Numbered}
 use Rattle.lgc_syntax.specs.declared.fault.TheConstants.{UNKNOWN_NAME, WRONG_ARITY, UNKNOWN_VALUE, BAD_ARGUMENT, MISNUMBERED}
-use Rattle.lgc_rules.specs.declared.rule.Numbered.{Numbered}
 use Rattle.lgc_rules.specs.declared.class.Class.TheVariants.{RuleWord, AtWord, OperatorWord, QuantifierWord, AllWord, SomeWord, Zero, Caret, OpenBrace, CloseBrace, OpenSquare, CloseSquare, Comma, Dot, Colon, Semicolon, Slash}
 use Rattle.lgc_rules.specs.declared.class.Class.{Class}
 use Rattle.lgc_rules.specs.declared.terminal.Terminal.{Terminal}

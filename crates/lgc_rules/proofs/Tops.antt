@@ -15,6 +15,7 @@ use Rattle.lgc_lexer.specs.declared.fault.LexFault.TheVariants.{BadByte, OpenQuo
 use Rattle.lgc_lexer.specs.Tokens.{tokens_of}
 use Rattle.lgc_values.specs.Logic.{Logic}
 use Rattle.lgc_clauses.specs.declared.rule.Rule.{Rule}
+use Rattle.lgc_clauses.specs.declared.rule.Numbered.{Numbered}
 use Rattle.lgc_syntax.specs.declared.fault.InputFault.{InputFault}
 use Rattle.lgc_syntax.specs.declared.fault.InputFault.TheVariants as fault
 use Rattle.lgc_syntax.specs.declared.fault.TheConstants.{FILE_TOO_LONG, BAD_BYTE, OPEN_QUOTE, UNEXPECTED}
@@ -22,7 +23,6 @@ use Rattle.lgc_rules.specs.declared.fault.Stop.{Stop}
 use Rattle.lgc_rules.specs.declared.fault.Stop.TheVariants as stop
 use Rattle.lgc_rules.specs.declared.number.TheConstants.{MOST_NUMBER}
 use Rattle.lgc_rules.specs.declared.file.TheConstants.{LONGEST_FILE}
-use Rattle.lgc_rules.specs.declared.rule.Numbered.{Numbered}
 use Rattle.lgc_rules.specs.declared.class.Class.TheVariants.{RuleWord}
 use Rattle.lgc_rules.specs.Spelled.{Spelled, spelled_all, place}
 use Rattle.lgc_rules.specs.Classes.{is}

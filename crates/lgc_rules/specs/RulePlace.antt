@@ -4,7 +4,7 @@ use Rattle.lgc_grammar.specs.Grammar.{Grammar}
 use Rattle.lgc_values.specs.Logic.{Logic}
 use Rattle.lgc_syntax.specs.declared.fault.InputFault.{InputFault}
 use Rattle.lgc_rules.specs.declared.number.TheConstants.{MOST_NUMBER}
-use Rattle.lgc_rules.specs.declared.rule.Numbered.{Numbered}
+use Rattle.lgc_clauses.specs.declared.rule.Numbered.{Numbered}
 use Rattle.lgc_rules.specs.Spelled.{Spelled}
 use Rattle.lgc_rules.specs.RuleGrammar.{OneRule}
 use Rattle.lgc_rules.specs.PlainGrammar.{PlainRule}

@@ -32,4 +32,4 @@ mod set;
 mod terminal;
 
 pub use file::{LONGEST_FILE, read_rules, rule_at};
-pub use rule::Numbered;
+pub use lgc_clauses::Numbered;

@@ -14,18 +14,11 @@ use crate::fault::Stop;
 use crate::qclause::read_quantifier_clauses;
 use crate::set::read_set;
 use crate::terminal::{Reading, Terminal, is_a, next_is, number_from, one};
-use lgc_clauses::{OpRule, QRule, Rule};
+use lgc_clauses::{Numbered, OpRule, QRule, Rule};
 use lgc_lexer::{Token, content};
 use lgc_syntax::{MISNUMBERED, UNKNOWN_NAME, WRONG_ARITY};
 use lgc_values::{Matrix, Operator, Quantifier};
 use std::alloc::Global;
-
-/// A rule with the number that is written before it.
-#[derive(Debug, Drop)]
-pub struct Numbered<const N: usize> {
-    pub number: u32,
-    pub rule: Rule<N>,
-}
 
 // The place of the operator with this name.
 fn place_of(operators: &[Operator], text: &[u8]) -> Option<usize>
