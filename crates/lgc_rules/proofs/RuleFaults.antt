@@ -5,7 +5,7 @@ use Rattle.lgc_grammar.proofs.BrokenRules.{Only, only_one, only_nothing, only_al
 use Rattle.lgc_values.specs.Logic.{Logic, operator_at}
 use Rattle.lgc_clauses.specs.declared.rule.Rule.{Rule}
 use Rattle.lgc_syntax.specs.declared.fault.TheConstants.{UNKNOWN_NAME, WRONG_ARITY, UNKNOWN_VALUE, BAD_ARGUMENT, MISNUMBERED}
-use Rattle.lgc_rules.specs.declared.rule.Numbered.{Numbered}
+use Rattle.lgc_clauses.specs.declared.rule.Numbered.{Numbered}
 use Rattle.lgc_rules.specs.declared.class.Class.TheVariants.{AllWord, SomeWord}
 use Rattle.lgc_rules.specs.declared.class.Class.{Class}
 use Rattle.lgc_rules.specs.Spelled.{Spelled}
