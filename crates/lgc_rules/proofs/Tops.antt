@@ -30,8 +30,9 @@ use Rattle.lgc_rules.specs.RuleGrammar.{NextRule, Rules}
 use Rattle.lgc_rules.specs.PlainGrammar.{PlainRule, PlainRules}
 use Rattle.lgc_rules.specs.RuleReading.{rule_at, rules_at}
 use Rattle.lgc_rules.specs.Gives.{Fails, Holds, IfFault, IsFaultIn, IsTree, Tells, fault_of, told_of, stop_told}
-use Rattle.lgc_rules.specs.RuleFile.{IsRuleFor, TokensGive, LexedGive, LengthGives, FileGives, IsFileOf, IsRuleFault, IsFileFault, lexed_read, file_read}
-use Rattle.lgc_rules.specs.RulePlace.{AnyNumbered, BeginsWithNone, RuleGives, with_rest, rule_read}
+use Rattle.lgc_rules.specs.RuleFile.{IsRuleFor, TokensGive, LexedGive, LengthGives, FileGives, IsFileOf, IsRuleFault, IsFileFault}
+use Rattle.lgc_rules.specs.RulePlace.{AnyNumbered, BeginsWithNone, RuleGives, with_rest}
+use Rattle.lgc_rules.specs.FileReading.{lexed_read, file_read, rule_read}
 use Rattle.lgc_rules.proofs.RuleReads.{rule_reads, rules_read}
 use Rattle.lgc_rules.proofs.Places.{length-spelled, spelled_drop, drop_to, few_tokens}
 use Rattle.lgc_rules.proofs.Fitting.{growing_keeps, rule_fits}

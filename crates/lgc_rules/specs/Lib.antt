@@ -8,3 +8,4 @@ pub mod RuleReading
 pub mod Gives
 pub mod RuleFile
 pub mod RulePlace
+pub mod FileReading

@@ -1,6 +1,5 @@
 -- What the bytes of a rule file give: its rules, or its first fault.
-use Rattle.std.specs.Prelude.{◌≡◌, ◌≤◌, ◌⊎◌, ℕ, nat_lt, Bool, true, false, List, length, Result, Ok, Err, if◌then◌else◌}
-use Rattle.lgc_grammar.specs.Reading.{whole}
+use Rattle.std.specs.Prelude.{◌≡◌, ◌≤◌, ◌⊎◌, ℕ, nat_lt, Bool, true, false, List, length, Result, Ok, Err}
 use Rattle.lgc_lexer.specs.declared.token.Token.{Token}
 use Rattle.lgc_lexer.specs.declared.fault.LexFault.{LexFault}
 use Rattle.lgc_lexer.specs.declared.fault.LexFault.TheVariants.{BadByte, OpenQuote, Memory}
@@ -17,15 +16,12 @@ use Rattle.lgc_rules.specs.declared.file.TheConstants.{LONGEST_FILE}
 use Rattle.lgc_rules.specs.Spelled.{spelled_all}
 use Rattle.lgc_rules.specs.RuleGrammar.{Rules}
 use Rattle.lgc_rules.specs.PlainGrammar.{PlainRules}
-use Rattle.lgc_rules.specs.RuleReading.{rules_at}
-use Rattle.lgc_rules.specs.Gives.{IsFaultIn, told_of}
+use Rattle.lgc_rules.specs.Gives.{IsFaultIn}
 
 -- a rule for the logic, whose clauses and sets have numbers of 32 bits
 pub record IsRuleFor (n : ℕ) (logic : Logic) (rule : Rule n) : Type 0 where
   pub fits : Fits logic (plain_rule rule)
   pub numbered : IsNumbered (plain_rule rule)
-
--- ---- as a relation
 
 -- What the tokens of a file give: the rules of the grammar. Else the fault is at the first token that breaks a rule of the
 -- grammar, or with which no rule file goes on.
@@ -63,17 +59,3 @@ IsRuleFault number = ((4 ≤ number) × (number ≤ 6)) ⊎ ((10 ≤ number) × 
 -- the numbers of the faults of a file: 1 to 6, and 10 to 12
 abbrev pub IsFileFault : ℕ → Type 0
 IsFileFault number = ((1 ≤ number) × (number ≤ 6)) ⊎ ((10 ≤ number) × (number ≤ 12))
-
--- ---- as a function
-
-abbrev pub lexed_read : (n : ℕ) → Logic → List ℕ → Result (List Token) LexFault → Result (List (Rule n)) InputFault
-lexed_read n logic bytes (Ok tokens) = told_of (length bytes) (whole (rules_at n logic) (spelled_all bytes tokens))
-lexed_read n logic bytes (Err (BadByte offset)) = Err (fault.Fault BAD_BYTE offset)
-lexed_read n logic bytes (Err (OpenQuote offset)) = Err (fault.Fault OPEN_QUOTE offset)
-lexed_read n logic bytes (Err Memory) = Err fault.Memory
-
--- the rules of the bytes of a file, or its first fault
-abbrev pub file_read : (n : ℕ) → Logic → List ℕ → Result (List (Rule n)) InputFault
-file_read n logic bytes =
-    if nat_lt LONGEST_FILE (length bytes) then Err (fault.Fault FILE_TOO_LONG LONGEST_FILE)
-    else lexed_read n logic bytes (tokens_of bytes)

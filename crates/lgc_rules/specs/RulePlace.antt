@@ -8,8 +8,7 @@ use Rattle.lgc_clauses.specs.declared.rule.Numbered.{Numbered}
 use Rattle.lgc_rules.specs.Spelled.{Spelled}
 use Rattle.lgc_rules.specs.RuleGrammar.{OneRule}
 use Rattle.lgc_rules.specs.PlainGrammar.{PlainRule}
-use Rattle.lgc_rules.specs.RuleReading.{rule_at}
-use Rattle.lgc_rules.specs.Gives.{IsFaultIn, told_of}
+use Rattle.lgc_rules.specs.Gives.{IsFaultIn}
 
 -- a rule with any number
 abbrev pub AnyNumbered : (n : ℕ) → Logic → Grammar Spelled (Numbered n)
@@ -29,7 +28,3 @@ RuleGives n logic end ts at (Err f) = BeginsWithNone n logic (drop at ts) × IsF
 abbrev pub with_rest : {n : ℕ} → List Spelled → Result (Numbered n × ℕ) InputFault → Result (Numbered n × List Spelled) InputFault
 with_rest ts (Ok x) = Ok (x.0, drop x.1 ts)
 with_rest ts (Err f) = Err f
-
--- The same as one function of the tokens: the rule and the tokens behind it, or the first fault.
-abbrev pub rule_read : (n : ℕ) → Logic → ℕ → List Spelled → Result (Numbered n × List Spelled) InputFault
-rule_read n logic end ts = told_of end (rule_at n logic 0 MOST_NUMBER ts)

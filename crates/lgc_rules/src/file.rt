@@ -11,8 +11,9 @@ ghost use Rattle.lgc_rules.specs.declared.number.TheConstants.{MOST_NUMBER};
 ghost use Rattle.lgc_rules.specs.Spelled.{Spelled, spelled_all, IsRest, IsShorter};
 ghost use Rattle.lgc_rules.specs.RuleReading.{next_rule_at, rules_at};
 ghost use Rattle.lgc_rules.specs.Gives.{Gives, Holds, IfFault, IsTree, Tells, told_of, stop_told};
-ghost use Rattle.lgc_rules.specs.RuleFile.{IsRuleFor, FileGives, IsFileOf, IsRuleFault, IsFileFault, file_read};
-ghost use Rattle.lgc_rules.specs.RulePlace.{AnyNumbered, RuleGives, with_rest, rule_read};
+ghost use Rattle.lgc_rules.specs.RuleFile.{IsRuleFor, FileGives, IsFileOf, IsRuleFault, IsFileFault};
+ghost use Rattle.lgc_rules.specs.RulePlace.{AnyNumbered, RuleGives, with_rest};
+ghost use Rattle.lgc_rules.specs.FileReading.{file_read, rule_read};
 
 use crate::class::Class;
 use crate::fault::Stop;

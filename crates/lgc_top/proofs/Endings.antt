@@ -48,7 +48,7 @@ told_fault n number offset = Err (input.Fault number offset)
 pub long_rules : (logic : Logic) (bytes : List ℕ) → rules.LONGEST_FILE < length bytes → RulesGiven logic bytes (told_fault logic.size syntax.FILE_TOO_LONG rules.LONGEST_FILE)
 long_rules logic bytes long =
     let is : nat_lt rules.LONGEST_FILE (length bytes) ≡ true = grind (arith, nat_tests) in
-    record { grammar = rw is refl; exact = rw is refl }
+    rw is refl
 
 -- the lines on rules answer the words, under the status by whether all rules are right
 pub lines_answer : (file rules : List ℕ) (files files_after : FilesState) (spec : Spec) (bytes text : List ℕ) (right : Bool) (status : Status) → files_after ≡ files → status ≡ verdict_status right → HasInput (Verify file rules) files spec bytes → IsVerdictText (logic_of spec) right bytes text → CommandAnswers (Verify file rules) files files_after status text

@@ -6,8 +6,8 @@ use Rattle.lgc_clauses.specs.declared.rule.Rule.{Rule}
 use Rattle.lgc_clauses.specs.Kinds.{plain_rule}
 use Rattle.lgc_syntax.specs.declared.fault.InputFault.{InputFault}
 use Rattle.lgc_syntax.specs.declared.fault.InputFault.TheVariants.{Fault, Memory}
-use Rattle.lgc_rules.specs.Gives.{Holds, Tells}
-use Rattle.lgc_rules.specs.RuleFile.{FileGives, file_read}
+use Rattle.lgc_rules.specs.Gives.{Holds}
+use Rattle.lgc_rules.specs.RuleFile.{FileGives}
 use Rattle.lgc_verify.specs.Verdicts.{IsRight, IsText}
 use Rattle.lgc_top.specs.Verify.{RulesGiven, IsVerdictText, JudgesBytes}
 
@@ -18,20 +18,18 @@ abbrev told_fault : (n number offset : ℕ) → Result (List (Rule n)) InputFaul
 told_fault n number offset = Err (Fault number offset)
 
 module _ (n : ℕ) (m logic : Logic) (same : m ≡ logic) (size : m.size ≡ n) (bytes : List ℕ) where
-  pub judged : (right : Bool) (text : List ℕ) (rules : List (Rule n)) → FileGives n m bytes (Ok rules) → file_read n m bytes ≡ Ok rules → IsTrue right ↔ All (IsRight m) (map plain_rule rules) → IsText m (map plain_rule rules) text → IsVerdictText logic right bytes text
-  judged right text rules grammar exact decided printed =
+  pub judged : (right : Bool) (text : List ℕ) (rules : List (Rule n)) → FileGives n m bytes (Ok rules) → IsTrue right ↔ All (IsRight m) (map plain_rule rules) → IsText m (map plain_rule rules) text → IsVerdictText logic right bytes text
+  judged right text rules given decided printed =
       subst (λ (l : Logic). IsVerdictText l right bytes text) same
-      (subst (λ (n : ℕ). (rules : List (Rule n)) → FileGives n m bytes (Ok rules) → file_read n m bytes ≡ Ok rules → IsTrue right ↔ All (IsRight m) (map plain_rule rules) → IsText m (map plain_rule rules) text → IsVerdictText m right bytes text) size
-      (λ rules grammar exact decided printed. record { rules = rules; given = record { grammar = grammar; exact = exact }; decided = decided; printed = printed })
-      rules grammar exact decided printed)
+      (subst (λ (n : ℕ). (rules : List (Rule n)) → FileGives n m bytes (Ok rules) → IsTrue right ↔ All (IsRight m) (map plain_rule rules) → IsText m (map plain_rule rules) text → IsVerdictText m right bytes text) size
+      (λ rules given decided printed. record { rules = rules; given = given; decided = decided; printed = printed })
+      rules given decided printed)
 
-  faulty : (number offset : ℕ) → FileGives n m bytes (told_fault n number offset) → file_read n m bytes ≡ told_fault n number offset → RulesGiven logic bytes (told_fault logic.size number offset)
-  faulty number offset grammar exact =
+  faulty : (number offset : ℕ) → FileGives n m bytes (told_fault n number offset) → RulesGiven logic bytes (told_fault logic.size number offset)
+  faulty number offset given =
       subst (λ (l : Logic). RulesGiven l bytes (told_fault l.size number offset)) same
-      (subst (λ (n : ℕ). FileGives n m bytes (told_fault n number offset) → file_read n m bytes ≡ told_fault n number offset → RulesGiven m bytes (told_fault m.size number offset)) size
-      (λ grammar exact. record { grammar = grammar; exact = exact })
-      grammar exact)
+      (subst (λ (n : ℕ). FileGives n m bytes (told_fault n number offset) → RulesGiven m bytes (told_fault m.size number offset)) size (λ given. given) given)
 
-  pub refused : (fault : InputFault) → Holds (FileGives n m bytes) (failed n fault) → Tells (λ (rules : List (Rule n)). rules) (failed n fault) (file_read n m bytes) → JudgesBytes logic bytes (Err fault)
-  refused Memory grammar exact = tt
-  refused (Fault number offset) grammar exact = faulty number offset grammar exact
+  pub refused : (fault : InputFault) → Holds (FileGives n m bytes) (failed n fault) → JudgesBytes logic bytes (Err fault)
+  refused Memory given = tt
+  refused (Fault number offset) given = faulty number offset given

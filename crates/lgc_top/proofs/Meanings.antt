@@ -13,6 +13,7 @@ use Rattle.lgc_spec.specs.Specification.{BytesGive}
 use Rattle.lgc_spec.proofs.OneSpec.{one_answer}
 use Rattle.lgc_syntax.specs.declared.fault.InputFault.{InputFault}
 use Rattle.lgc_syntax.specs.declared.fault.InputFault.TheVariants as input
+use Rattle.lgc_rules.proofs.Tops.{file_once}
 use Rattle.lgc_top.specs.declared.status.Status.{Status}
 use Rattle.lgc_top.specs.declared.status.Status.TheVariants.{Done, Usage, BadSpec, BadInput, Rejected, ReadFault, WriteFault, Memory}
 use Rattle.lgc_top.specs.Commands.{Command, Calculus, Verify, spec_of}
@@ -59,7 +60,7 @@ answers_mean command files files_after Memory text (same, h) other = works_mean 
 -- ---- one status is meant
 
 given_once : (logic : Logic) (bytes : List ℕ) (found also : Result (List (Rule logic.size)) InputFault) → RulesGiven logic bytes found → RulesGiven logic bytes also → found ≡ also
-given_once logic bytes found also gives given = sym gives.exact ∙ given.exact
+given_once logic bytes found also gives given = sym (file_once logic.size logic bytes found gives) ∙ file_once logic.size logic bytes also given
 
 rules_once : (logic : Logic) (told : Result (List (Rule logic.size)) InputFault) (a b : Status) → RulesMean logic told a → RulesMean logic told b → a ≡ b
 rules_once logic (Err fault) a b p q = p ∙ sym q

@@ -5,14 +5,13 @@ use Rattle.lgc_clauses.specs.declared.rule.Rule.{Rule}
 use Rattle.lgc_clauses.specs.Kinds.{plain_rule}
 use Rattle.lgc_syntax.specs.declared.fault.InputFault.{InputFault}
 use Rattle.lgc_syntax.specs.declared.fault.InputFault.TheVariants.{Fault, Memory}
-use Rattle.lgc_rules.specs.RuleFile.{FileGives, file_read}
+use Rattle.lgc_rules.specs.RuleFile.{FileGives}
 use Rattle.lgc_verify.specs.declared.text.Judged.{Judged}
 use Rattle.lgc_verify.specs.Verdicts.{IsRight, IsText}
 
--- What the bytes of a rule file give for a logic, as a relation and as a function: its rules, or its first fault.
-pub record RulesGiven (logic : Logic) (bytes : List ℕ) (told : Result (List (Rule logic.size)) InputFault) : Type 0 where
-  pub grammar : FileGives logic.size logic bytes told
-  pub exact : file_read logic.size logic bytes ≡ told
+-- what the bytes of a rule file give for a logic: its rules, or its first fault
+abbrev pub RulesGiven : (logic : Logic) → List ℕ → Result (List (Rule logic.size)) InputFault → Type 0
+RulesGiven logic bytes told = FileGives logic.size logic bytes told
 
 -- The bytes are those of a rule file, the text has a line on each of its rules, and `right` tells whether all of them are right.
 pub record IsVerdictText (logic : Logic) (right : Bool) (bytes text : List ℕ) : Type 0 where
