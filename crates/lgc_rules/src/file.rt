@@ -19,7 +19,7 @@ use crate::class::Class;
 use crate::fault::Stop;
 use crate::number::MOST_NUMBER;
 use crate::rule::one_rule;
-use crate::terminal::{Rest, Terminal, next_is, place};
+use crate::terminal::{Reading, Rest, Terminal, next_is, place};
 use lgc_clauses::{Numbered, Rule};
 use lgc_lexer::{LexFault, Token, lex};
 use lgc_syntax::{BAD_BYTE, FILE_TOO_LONG, InputFault, OPEN_QUOTE, UNEXPECTED};
@@ -76,19 +76,18 @@ fn more_rules<'a, const N: usize>(
     alloc: Global,
     m: &Matrix<N>,
     bytes: &[u8],
-    rules: &mut List<Rule<N>>,
     tokens: &'a [Token],
-) -> Rest<'a>
+) -> Reading<'a, List<Rule<N>>>
     requires inside { AllIn bytes.now tokens.now }
-    requires none { rules.old ≡ [] }
     requires few { length tokens.now < MOST_NUMBER }
-    ensures gives { Gives bytes.now (λ x. (rules.new, spelled_all bytes.now x.now)) result (rules_at N m.now (spelled_all bytes.now tokens.now)) }
+    ensures gives { Gives bytes.now (λ x. (x.0, spelled_all bytes.now x.1.now)) result (rules_at N m.now (spelled_all bytes.now tokens.now)) }
 {
+    let mut rules = List::new(alloc);
     let mut rest = tokens;
     while next_is(bytes, Terminal::Only(Class::RuleWord), rest) {
-        rest = next_rule(alloc, m, bytes, rules, rest)?;
+        rest = next_rule(alloc, m, bytes, &mut rules, rest)?;
     }
-    Ok(rest)
+    Ok((rules, rest))
 }
 
 fn rules_of<const N: usize>(
@@ -102,10 +101,9 @@ fn rules_of<const N: usize>(
     requires few { length tokens.now < MOST_NUMBER }
     ensures { Tells (λ rules. rules) result (told_of (length bytes.now) (whole (rules_at N m.now) (spelled_all bytes.now tokens.now))) }
 {
-    let mut rules = List::new(alloc);
-    match more_rules(alloc, m, bytes, &mut rules, tokens) {
-        Ok([]) => Ok(rules),
-        Ok(rest) => Err(fault_at(UNEXPECTED, place(bytes, rest))),
+    match more_rules(alloc, m, bytes, tokens) {
+        Ok((rules, [])) => Ok(rules),
+        Ok((_, rest)) => Err(fault_at(UNEXPECTED, place(bytes, rest))),
         Err(stop) => Err(fault_of(bytes, stop)),
     }
 }

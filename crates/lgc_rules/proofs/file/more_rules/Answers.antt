@@ -8,8 +8,8 @@ use Rattle.lgc_rules.proofs.file.more_rules.Goals as goal
 pub loop-alloc-init : goal.loop-alloc-init
 unfolding rules_at
 loop-alloc-init g c = record {
-  so_far = rw c.requires.none refl;
-  few = omega (arith, ap length c.requires.none);
+  so_far = rw c.new-rules.ensures refl;
+  few = omega (arith, ap length c.new-rules.ensures);
   rest = record { shorter = omega arith; inside = c.requires.inside };
 }
 
