@@ -11,7 +11,7 @@ use Rattle.lgc_grammar.proofs.Readers.{or_left, or_right}
 use Rattle.lgc_values.specs.declared.matrix.Operator.{Operator}
 use Rattle.lgc_values.specs.declared.matrix.Quantifier.{Quantifier}
 use Rattle.lgc_values.specs.Values.{has}
-use Rattle.lgc_values.specs.Logic.{Logic, operator_at}
+use Rattle.lgc_values.specs.Logic.{Logic, operator_at, value_named, operator_named, quantifier_named}
 use Rattle.lgc_values.proofs.ValueLaws.{has-values_where}
 use Rattle.lgc_clauses.specs.Rules.{Head, operator, quantifier, IsClauseOf}
 use Rattle.lgc_clauses.specs.Irredundance.{set_number}
@@ -22,7 +22,7 @@ use Rattle.lgc_rules.specs.declared.number.TheConstants.{MOST_NUMBER}
 use Rattle.lgc_rules.specs.Numbers.{number_in, writes_number}
 use Rattle.lgc_rules.specs.Spelled.{Spelled}
 use Rattle.lgc_rules.specs.Classes.{is_number}
-use Rattle.lgc_rules.specs.Names.{value_named, operator_named, quantifier_named, number, names_no_value, names_no_operator, names_no_quantifier, is_outside, padded, with_value}
+use Rattle.lgc_rules.specs.Names.{number, names_no_value, names_no_operator, names_no_quantifier, is_outside, padded, with_value}
 use Rattle.lgc_rules.specs.RuleFile.{IsRuleFor}
 use Rattle.lgc_rules.specs.RuleGrammar.{NumberFrom, Value, NextValue, Set, Literal, NextLiteral, Literals, Clause, NextAll, LastSome, AllSets, QuantifierClause, NextClause, Clauses, OperatorHead, QuantifierHead, Body, OfOperator, OfQuantifier, OneRule}
 use Rattle.lgc_rules.proofs.NumberTokens.{no_number}

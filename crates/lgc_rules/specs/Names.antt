@@ -1,22 +1,9 @@
 -- What the names and numbers of rules mean in a logic.
-use Rattle.std.specs.Prelude.{ℕ, ◌||◌, ◌==◌, ◌-◌, nat_lt, Bool, List, [], ◌++◌, position, Option, unwrap_or, is_none, replicate, length}
-use Rattle.std.specs.Str.{bytes_eq}
-use Rattle.lgc_values.specs.Logic.{Logic}
+use Rattle.std.specs.Prelude.{ℕ, ◌||◌, ◌==◌, ◌-◌, nat_lt, Bool, List, [], ◌++◌, unwrap_or, is_none, replicate, length}
+use Rattle.lgc_values.specs.Logic.{Logic, value_named, operator_named, quantifier_named}
 use Rattle.lgc_values.specs.Values.{has, values_where}
 use Rattle.lgc_rules.specs.Numbers.{number_of}
 use Rattle.lgc_rules.specs.Spelled.{Spelled}
-
--- the place of a text among the names of the values
-abbrev pub value_named : Logic → List ℕ → Option ℕ
-value_named logic text = position (λ name. bytes_eq name text) logic.names
-
--- the place of the operator that has this name
-abbrev pub operator_named : Logic → List ℕ → Option ℕ
-operator_named logic text = position (λ o. bytes_eq o.name text) logic.operators
-
--- the place of the quantifier that has this name
-abbrev pub quantifier_named : Logic → List ℕ → Option ℕ
-quantifier_named logic text = position (λ q. bytes_eq q.name text) logic.quantifiers
 
 -- the value that a token names
 abbrev pub value_of : Logic → Spelled → ℕ

@@ -1,10 +1,9 @@
 // Rules with their numbers.
 ghost use Rattle.std.specs.Prelude.{◌≡◌, [], ◌<◌, length, position, IfOk, IfSome};
 ghost use Rattle.std.specs.Str.{bytes_eq};
-ghost use Rattle.lgc_values.specs.Logic.{operator_at};
+ghost use Rattle.lgc_values.specs.Logic.{operator_at, operator_named, quantifier_named};
 ghost use Rattle.lgc_lexer.specs.Spans.{AllIn};
 ghost use Rattle.lgc_rules.specs.Spelled.{spelled_all, IsShorter};
-ghost use Rattle.lgc_rules.specs.Names.{operator_named, quantifier_named};
 ghost use Rattle.lgc_rules.specs.RuleReading.{operator_name_at, operator_head_at, quantifier_name_at, quantifier_head_at, of_operator_at, of_quantifier_at, of_symbol_at, rule_at};
 ghost use Rattle.lgc_rules.specs.Gives.{Gives};
 
@@ -17,29 +16,8 @@ use crate::terminal::{Reading, Terminal, is_a, next_is, number_from, one};
 use lgc_clauses::{Numbered, OpRule, QRule, Rule};
 use lgc_lexer::{Token, content};
 use lgc_syntax::{MISNUMBERED, UNKNOWN_NAME, WRONG_ARITY};
-use lgc_values::{Matrix, Operator, Quantifier};
+use lgc_values::Matrix;
 use std::alloc::Global;
-
-// The place of the operator with this name.
-fn place_of(operators: &[Operator], text: &[u8]) -> Option<usize>
-    ensures place { result ≡ position (λ o. bytes_eq o.name text.now) operators.now }
-    ensures below { IfSome result (λ place. place < length operators.now) }
-{
-    operators
-        .iter()
-        .position(|operator| operator.name.bytes() == text)
-}
-
-// The operator with this name.
-fn operator_named<const N: usize>(m: &Matrix<N>, text: &[u8]) -> Option<u16>
-    ensures operator { result ≡ operator_named m.now text.now }
-    ensures below { IfSome result (λ op. op < length m.now.operators) }
-{
-    match place_of(m.operators(), text) {
-        Some(place) => Some(place as u16),
-        None => None,
-    }
-}
 
 fn arity_of<const N: usize>(m: &Matrix<N>, op: u16) -> u8
     requires { op < length m.now.operators }
@@ -62,7 +40,7 @@ fn operator_name<'a, const N: usize>(
 {
     match tokens.split_first() {
         Some((token, rest)) if is_a(bytes, Terminal::Name, token, rest) => {
-            match operator_named(m, content(bytes, token)) {
+            match m.operator_named(content(bytes, token)) {
                 Some(op) => Ok((op, rest)),
                 None => Err(Stop::Breaks(UNKNOWN_NAME, tokens)),
             }
@@ -91,26 +69,6 @@ fn operator_head<'a, const N: usize>(
     Ok((op, rest))
 }
 
-// The place of the quantifier with this name.
-fn place_among(quantifiers: &[Quantifier], text: &[u8]) -> Option<usize>
-    ensures place { result ≡ position (λ q. bytes_eq q.name text.now) quantifiers.now }
-    ensures below { IfSome result (λ place. place < length quantifiers.now) }
-{
-    quantifiers
-        .iter()
-        .position(|quantifier| quantifier.name.bytes() == text)
-}
-
-// The quantifier with this name.
-fn quantifier_named<const N: usize>(m: &Matrix<N>, text: &[u8]) -> Option<u16>
-    ensures { result ≡ quantifier_named m.now text.now }
-{
-    match place_among(m.quantifiers(), text) {
-        Some(place) => Some(place as u16),
-        None => None,
-    }
-}
-
 // The quantifier that the next token names.
 #[tactic(auto, unfolding(crate::specs::RuleReading::quantifier_name_at))]
 fn quantifier_name<'a, const N: usize>(
@@ -124,7 +82,7 @@ fn quantifier_name<'a, const N: usize>(
 {
     match tokens.split_first() {
         Some((token, rest)) if is_a(bytes, Terminal::Name, token, rest) => {
-            match quantifier_named(m, content(bytes, token)) {
+            match m.quantifier_named(content(bytes, token)) {
                 Some(quant) => Ok((quant, rest)),
                 None => Err(Stop::Breaks(UNKNOWN_NAME, tokens)),
             }

@@ -4,7 +4,7 @@ ghost use Rattle.std.specs.Str.{bytes_eq};
 ghost use Rattle.lgc_values.specs.Values.{IsSize};
 ghost use Rattle.lgc_lexer.specs.Spans.{AllIn};
 ghost use Rattle.lgc_rules.specs.Spelled.{spelled_all, IsRest, IsShorter};
-ghost use Rattle.lgc_rules.specs.Names.{value_named};
+ghost use Rattle.lgc_values.specs.Logic.{value_named};
 ghost use Rattle.lgc_rules.specs.RuleReading.{value_at, next_value_at, more_values_at, set_at};
 ghost use Rattle.lgc_rules.specs.Gives.{Gives};
 
@@ -14,26 +14,6 @@ use crate::terminal::{Reading, Rest, Terminal, is_a, next_is, one};
 use lgc_lexer::{Token, content};
 use lgc_syntax::UNKNOWN_VALUE;
 use lgc_values::{Matrix, Name, ValueSet};
-
-// The place of a text among the names.
-fn place_of(names: &[Name], text: &[u8]) -> Option<usize>
-    ensures place { result ≡ position (λ name. bytes_eq name text.now) names.now }
-    ensures below { IfSome result (λ place. place < length names.now) }
-{
-    names.iter().position(|name| name.bytes() == text)
-}
-
-// The truth value with this name.
-fn value_named<const N: usize>(m: &Matrix<N>, text: &[u8]) -> Option<u8>
-    ensures value { result ≡ value_named m.now text.now }
-    ensures below { IfSome result (λ value. value < N) }
-    ensures size { IsSize N }
-{
-    match place_of(m.names(), text) {
-        Some(place) => Some(place as u8),
-        None => None,
-    }
-}
 
 // The truth value that the next token names.
 #[tactic(auto, unfolding(crate::specs::RuleReading::value_at))]
@@ -46,7 +26,7 @@ fn value<'a, const N: usize>(m: &Matrix<N>, bytes: &[u8], tokens: &'a [Token]) -
 {
     match tokens.split_first() {
         Some((token, rest)) if is_a(bytes, Terminal::Value, token, rest) => {
-            match value_named(m, content(bytes, token)) {
+            match m.value_named(content(bytes, token)) {
                 Some(value) => Ok((value, rest)),
                 None => Err(Stop::Breaks(UNKNOWN_VALUE, tokens)),
             }

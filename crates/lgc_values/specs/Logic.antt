@@ -1,5 +1,6 @@
 -- A finite-valued logic, as plain lists and numbers.
-use Rattle.std.specs.Prelude.{◌≡◌, ◌≢◌, ℕ, zero, suc, ◌+◌, ◌-◌, ◌/◌, ◌%◌, ◌^◌, ◌<◌, ◌≤◌, List, [], ◌∷◌, ◌++◌, length, map, All, AllPairs, slice_get, slice_index, unwrap_or}
+use Rattle.std.specs.Prelude.{◌≡◌, ◌≢◌, ℕ, zero, suc, ◌+◌, ◌-◌, ◌/◌, ◌%◌, ◌^◌, ◌<◌, ◌≤◌, List, [], ◌∷◌, ◌++◌, length, map, All, AllPairs, slice_get, slice_index, unwrap_or, position, Option}
+use Rattle.std.specs.Str.{bytes_eq}
 use Rattle.lgc_values.specs.declared.TheConstants.{MOST_ARGUMENTS, MOST_ROWS, MOST_SYMBOLS, QUOTE}
 use Rattle.lgc_values.specs.declared.matrix.Operator.{Operator}
 use Rattle.lgc_values.specs.declared.matrix.Quantifier.{Quantifier}
@@ -70,3 +71,17 @@ value_at logic op row = slice_index (operator_at logic op).table row
 -- the value of a quantifier at a nonempty set
 abbrev pub value_over : Logic → ℕ → List ℕ → ℕ
 value_over logic q set = slice_index (quantifier_at logic q).table (mask_of set - 1)
+
+-- ---- names
+
+-- the truth value that has this name
+abbrev pub value_named : Logic → List ℕ → Option ℕ
+value_named logic text = position (λ name. bytes_eq name text) logic.names
+
+-- the operator that has this name
+abbrev pub operator_named : Logic → List ℕ → Option ℕ
+operator_named logic text = position (λ o. bytes_eq o.name text) logic.operators
+
+-- the quantifier that has this name
+abbrev pub quantifier_named : Logic → List ℕ → Option ℕ
+quantifier_named logic text = position (λ q. bytes_eq q.name text) logic.quantifiers

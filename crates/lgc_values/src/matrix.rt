@@ -1,7 +1,8 @@
 // A finite-valued logic: its values' names, its designated values and the tables of its operators and quantifiers.
-ghost use Rattle.std.specs.Prelude.{◌≡◌, ◌≢◌, ◌<◌, ◌-◌, ◌^◌, [], length};
-ghost use Rattle.lgc_values.specs.Values.{set_of_row};
-ghost use Rattle.lgc_values.specs.Logic.{IsLogic, Logic, row_count, value_at, value_over};
+ghost use Rattle.std.specs.Prelude.{◌≡◌, ◌≢◌, ◌<◌, ◌-◌, ◌^◌, [], length, position, IfSome};
+ghost use Rattle.std.specs.Str.{bytes_eq};
+ghost use Rattle.lgc_values.specs.Values.{IsSize, set_of_row};
+ghost use Rattle.lgc_values.specs.Logic.{IsLogic, Logic, row_count, value_at, value_over, value_named, operator_named, quantifier_named};
 
 use crate::{List, Name, ValueSet};
 use std::marker::Model;
@@ -128,4 +129,66 @@ impl<const N: usize> Matrix<N> {
         let _names = &self.names;
         ValueSet::of_row(row)
     }
+
+    /// The truth value that has this name, if there is one.
+    pub fn value_named(&self, text: &[u8]) -> Option<u8>
+        ensures value { result ≡ value_named self.now text.now }
+        ensures below { IfSome result (λ value. value < N) }
+        ensures size { IsSize N }
+    {
+        match value_place(self.names(), text) {
+            Some(place) => Some(place as u8),
+            None => None,
+        }
+    }
+
+    /// The operator that has this name, counted from 0, if there is one.
+    pub fn operator_named(&self, text: &[u8]) -> Option<u16>
+        ensures operator { result ≡ operator_named self.now text.now }
+        ensures below { IfSome result (λ op. op < length self.now.operators) }
+    {
+        match operator_place(self.operators(), text) {
+            Some(place) => Some(place as u16),
+            None => None,
+        }
+    }
+
+    /// The quantifier that has this name, counted from 0, if there is one.
+    pub fn quantifier_named(&self, text: &[u8]) -> Option<u16>
+        ensures quantifier { result ≡ quantifier_named self.now text.now }
+        ensures below { IfSome result (λ q. q < length self.now.quantifiers) }
+    {
+        match quantifier_place(self.quantifiers(), text) {
+            Some(place) => Some(place as u16),
+            None => None,
+        }
+    }
+}
+
+// The place of a text among the names.
+fn value_place(names: &[Name], text: &[u8]) -> Option<usize>
+    ensures place { result ≡ position (λ name. bytes_eq name text.now) names.now }
+    ensures below { IfSome result (λ place. place < length names.now) }
+{
+    names.iter().position(|name| name.bytes() == text)
+}
+
+// The place of the operator that has this name.
+fn operator_place(operators: &[Operator], text: &[u8]) -> Option<usize>
+    ensures place { result ≡ position (λ o. bytes_eq o.name text.now) operators.now }
+    ensures below { IfSome result (λ place. place < length operators.now) }
+{
+    operators
+        .iter()
+        .position(|operator| operator.name.bytes() == text)
+}
+
+// The place of the quantifier that has this name.
+fn quantifier_place(quantifiers: &[Quantifier], text: &[u8]) -> Option<usize>
+    ensures place { result ≡ position (λ q. bytes_eq q.name text.now) quantifiers.now }
+    ensures below { IfSome result (λ place. place < length quantifiers.now) }
+{
+    quantifiers
+        .iter()
+        .position(|quantifier| quantifier.name.bytes() == text)
 }
