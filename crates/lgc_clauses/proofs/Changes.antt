@@ -1,15 +1,13 @@
 -- Clauses with a part taken away.
 use Rattle.std.proofs.Common.{◌≡◌, ℕ, zero, suc, ◌+◌, ◌-◌, ◌/◌, ◌%◌, ◌^◌, ◌<◌, ◌≤◌, Bool, true, false, ◌==◌, ◌&&◌, ◌||◌, not, List, [], ◌∷◌, length, take, drop, set, get_or, refl, ap, sym, ◌∙◌, arith, cond, ⊎_elim}
-use Rattle.std.specs.Prelude.{filter, nat_lt}
+use Rattle.std.specs.Prelude.{filter}
 use Rattle.std.specs.List.{list_all, list_any, remove}
 use Rattle.std.proofs.lemmas.Bool.Decides.{nat_tests}
 use Rattle.std.proofs.lemmas.List.{drop_all, length-set, get_or-set_same, get_or-set_other}
-use Rattle.std.proofs.lemmas.Bool.{cases_eq, eq-eqb, ne_eqb, ltb-true, and_parts}
+use Rattle.std.proofs.lemmas.Bool.{cases_eq, eq-eqb, ne_eqb}
 use Rattle.std.proofs.lemmas.List.Folds.{list_any-append}
-use Rattle.std.specs.Int.{bit_at}
-use Rattle.lgc_values.specs.Values.{has, members_of, set_of_row}
+use Rattle.lgc_values.specs.Values.{has, set_of_row}
 use Rattle.lgc_values.specs.Logic.{Logic, arguments_at}
-use Rattle.lgc_values.proofs.ValueLaws.{has-values_where}
 use Rattle.lgc_clauses.specs.Rules.{Head, operator, quantifier, some_in, clause_holds, holds_over, is_true_at, all_true_at}
 use Rattle.lgc_clauses.proofs.Walking.{holds_more}
 use Rattle.lgc_clauses.specs.Irredundance.{sets_without, clauses_without, set_at, clause_at}

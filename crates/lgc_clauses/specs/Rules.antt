@@ -1,5 +1,5 @@
 -- Clauses and rules of operators and of quantifiers: where they are true, when a rule fits, and the order of clauses.
-use Rattle.std.specs.Prelude.{◌≡◌, ◌≢◌, ℕ, ◌+◌, ◌-◌, ◌^◌, ◌<◌, ◌==◌, ◌||◌, Bool, true, false, List, [], ◌∷◌, length, drop, All, AllPairs, map, nat_lt, if◌then◌else◌}
+use Rattle.std.specs.Prelude.{◌≡◌, ◌≢◌, ℕ, ◌-◌, ◌^◌, ◌<◌, ◌==◌, ◌||◌, Bool, true, false, List, [], ◌∷◌, length, drop, All, AllPairs, map, nat_lt, if◌then◌else◌}
 use Rattle.std.specs.List.{list_all, list_any}
 use Rattle.lgc_values.specs.Values.{has, mask_of, set_of_row}
 use Rattle.lgc_values.specs.Logic.{Logic, operator_at, arguments_at, row_count, value_at, value_over}

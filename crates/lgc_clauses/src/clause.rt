@@ -18,13 +18,10 @@ pub struct Clause<const N: usize> {
 
 impl<const N: usize> Model for Clause<N> {
     ghost use Rattle.std.specs.Prelude.{ℕ, List};
-    ghost use Rattle.lgc_values.specs.Values.{IsSize};
 
     ghost Value = { List (List ℕ) };
 
     ghost view = { λ clause. clause.sets };
-
-    ghost invariant = { λ _. IsSize N };
 }
 
 /// A clause of a quantifier. It is seen as the list of its sets, of which `some` is the first.
@@ -36,13 +33,10 @@ pub struct QClause<const N: usize> {
 
 impl<const N: usize> Model for QClause<N> {
     ghost use Rattle.std.specs.Prelude.{ℕ, List, ◌∷◌};
-    ghost use Rattle.lgc_values.specs.Values.{IsSize};
 
     ghost Value = { List (List ℕ) };
 
     ghost view = { λ clause. clause.some ∷ clause.all };
-
-    ghost invariant = { λ _. IsSize N };
 }
 
 /// Whether a clause of operator `op` is true at the row with the index `row`: whether some argument lies in its set.

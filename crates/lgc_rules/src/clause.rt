@@ -18,12 +18,15 @@ use lgc_values::{List, Matrix, ValueSet};
 use std::alloc::{AllocError, Global};
 
 // Appends empty sets, so that there are `width` at least.
-fn pad<const N: usize>(sets: &mut List<ValueSet<N>>, width: usize) -> Result<(), AllocError>
-    requires { IsSize N }
+fn pad<const N: usize>(
+    m: &Matrix<N>,
+    sets: &mut List<ValueSet<N>>,
+    width: usize,
+) -> Result<(), AllocError>
     ensures { OnOk result (sets.new ≡ padded width sets.old) }
 {
     while sets.len() < width {
-        sets.push(ValueSet::empty())?;
+        sets.push(m.empty_set())?;
     }
     Ok(())
 }
@@ -56,7 +59,7 @@ fn literal<'a, const N: usize>(
     )?;
     let (_, rest) = one(bytes, Terminal::Only(Class::Caret), rest)?;
     let (set, rest) = tried!(read_set(m, bytes, rest));
-    pad(sets, argument as usize - 1)?;
+    pad(m, sets, argument as usize - 1)?;
     sets.push(set)?;
     Ok(rest)
 }
@@ -115,8 +118,7 @@ fn literals<'a, const N: usize>(
     let mut sets = List::new(alloc);
     let rest = literal(m, bytes, arity, Terminal::Argument, &mut sets, tokens)?;
     let rest = more_literals(m, bytes, arity, &mut sets, rest)?;
-    let _designated = m.designated();
-    pad(&mut sets, usize::from(arity))?;
+    pad(m, &mut sets, usize::from(arity))?;
     Ok((Clause { sets }, rest))
 }
 
@@ -135,8 +137,7 @@ fn empty_clause<'a, const N: usize>(
 {
     let (_, rest) = one(bytes, Terminal::Only(Class::Zero), tokens)?;
     let mut sets = List::new(alloc);
-    let _designated = m.designated();
-    pad(&mut sets, usize::from(arity))?;
+    pad(m, &mut sets, usize::from(arity))?;
     Ok((Clause { sets }, rest))
 }
 

@@ -73,8 +73,7 @@ fn more_sets<'a, const N: usize>(
         }
         rest = behind;
     }
-    let _designated = m.designated();
-    Ok((ValueSet::empty(), rest))
+    Ok((m.empty_set(), rest))
 }
 
 // One `all` set or more, and the `some` set.
@@ -127,8 +126,7 @@ fn no_sets<'a, const N: usize>(
 {
     let (_, rest) = one(bytes, Terminal::Zero, tokens)?;
     let all = List::new(alloc);
-    let _designated = m.designated();
-    let some = ValueSet::empty();
+    let some = m.empty_set();
     Ok((QClause { all, some }, rest))
 }
 

@@ -120,6 +120,14 @@ impl<const N: usize> Matrix<N> {
         quantifier.table.items()[set.mask() as usize - 1]
     }
 
+    /// The set without truth values.
+    pub fn empty_set(&self) -> ValueSet<N>
+        ensures { result ≡ [] }
+    {
+        let _names = &self.names;
+        ValueSet::empty()
+    }
+
     /// The nonempty set that stands in the row of a quantifier's table with this index, from 0.
     pub fn set_of_row(&self, row: u32) -> ValueSet<N>
         requires { row < 2 ^ self.now.size - 1 }

@@ -25,4 +25,4 @@ loop-all-preserved g c = record {
 
 pub returns-clause-gives : goal.returns-clause-gives
 unfolding more_sets_at
-returns-clause-gives g c = rw c.empty.ensures (going_ends (next_set_reads g.row.N c.args.m.now) (λ sets. [] ∷ sets) _ _ _ c.loop-all-test.ensures c.loop-all.invariant.so_far)
+returns-clause-gives g c = rw c.empty_set.ensures (going_ends (next_set_reads g.row.N c.args.m.now) (λ sets. [] ∷ sets) _ _ _ c.loop-all-test.ensures c.loop-all.invariant.so_far)
