@@ -5,9 +5,10 @@ use Rattle.lgc_lexer.specs.declared.token.Token.{Token}
 use Rattle.lgc_parser.specs.declared.tree.Word.{Word}
 use Rattle.lgc_parser.specs.declared.tree.Statement.{Statement}
 use Rattle.lgc_parser.specs.declared.tree.Statement.TheVariants as statement
-use Rattle.lgc_parser.specs.Spelled.{Spelled, word_of, place_of}
-use Rattle.lgc_parser.specs.declared.class.Class.TheVariants.{LogicWord, ValuesWord, DesignatedWord, OrderingWord, OperatorWord, QuantifierWord, Text, OpenRound, CloseRound, Comma, Slash}
-use Rattle.lgc_parser.specs.Classes.{is, is_name, is_value, is_logic_name}
+use Rattle.lgc_tokens.specs.Spelled.{Spelled, place_of}
+use Rattle.lgc_parser.specs.Words.{word_of}
+use Rattle.lgc_tokens.specs.declared.class.Class.TheVariants.{LogicWord, ValuesWord, DesignatedWord, OrderingWord, OperatorWord, QuantifierWord, Text, OpenRound, CloseRound, Comma, Slash}
+use Rattle.lgc_tokens.specs.Classes.{is, is_name_or_symbol, is_value, is_logic_name}
 use Rattle.lgc_parser.specs.TreeWords.{IsWordWhere, StatementDeclares}
 use Rattle.lgc_parser.specs.SpecGrammar.{Name, Value, Arity, Set, BodyOfOp, BodyOfQuant, Logic, TruthValues, Designated, Ordering, Operator, Quantifier, OneStatement, Spec}
 use Rattle.lgc_parser.proofs.Keeps.{Keeps, nothing_keeps, either_keeps, then_keeps, behind_keeps}
@@ -65,5 +66,5 @@ module _ (bytes : List ℕ) (all : List Token) where
   where_keeps : (test : Spelled → Bool) → Keeps (IsTokenOf bytes all) (Mapped word_of (One test)) (IsWordWhere bytes all test)
   where_keeps test = word_keeps (IsTokenOf bytes all) (IsWordWhere bytes all test) test (λ t h e. record { word = h.0; passes = subst (λ s. test s ≡ true) (sym h.1) e })
 
-  pub spec_declares : Keeps (IsTokenOf bytes all) Spec (All (StatementDeclares (IsWordWhere bytes all is_value) (IsWordWhere bytes all is_name)))
-  spec_declares = sentences_keep (IsTokenOf bytes all) (StatementDeclares (IsWordWhere bytes all is_value) (IsWordWhere bytes all is_name)) (statement_declares (IsTokenOf bytes all) (IsWordWhere bytes all is_value) (IsWordWhere bytes all is_name) (where_keeps is_value) (where_keeps is_name))
+  pub spec_declares : Keeps (IsTokenOf bytes all) Spec (All (StatementDeclares (IsWordWhere bytes all is_value) (IsWordWhere bytes all is_name_or_symbol)))
+  spec_declares = sentences_keep (IsTokenOf bytes all) (StatementDeclares (IsWordWhere bytes all is_value) (IsWordWhere bytes all is_name_or_symbol)) (statement_declares (IsTokenOf bytes all) (IsWordWhere bytes all is_value) (IsWordWhere bytes all is_name_or_symbol) (where_keeps is_value) (where_keeps is_name_or_symbol))

@@ -1,19 +1,16 @@
 -- Faults that a function passes on, and lists that the code reads, against the lists that are read.
-use Rattle.std.proofs.Common.{◌≡◌, ◌<◌, ℕ, Bool, true, List, [], ◌∷◌, ◌++◌, length, Some, None, Result, Ok, Err, OnOk, refl, sym, ap, ◌∙◌, append_assoc, append-nil, arith, length-append}
+use Rattle.std.proofs.Common.{◌≡◌, ◌<◌, ℕ, Bool, true, List, [], ◌∷◌, ◌++◌, length, Some, None, Result, Ok, Err, refl, sym, ap, ◌∙◌, append_assoc, append-nil, arith, length-append}
 use Rattle.std.specs.Prelude.{◌||◌}
-use Rattle.lgc_grammar.specs.Grammar.{Grammar, Language, Why, Unexpected}
+use Rattle.lgc_grammar.specs.Grammar.{Grammar, Language, Why}
 use Rattle.lgc_grammar.specs.Reading.{Reader, and_then, next_is, skip, past, many_at, behind_at, more_at, more_loosely_at, listed_at}
 use Rattle.lgc_grammar.proofs.Readers.{Reads, Start, Must, ok}
 use Rattle.lgc_grammar.proofs.Repetitions.{Shrinks, many_ends, many_fails, many_goes}
 use Rattle.lgc_grammar.proofs.Loops.{with_front, list_fails, many_stops, loosely_stops, skip_some, skip_none}
-use Rattle.lgc_parser.specs.declared.fault.Stop.{Stop}
-use Rattle.lgc_parser.specs.declared.fault.Stop.TheVariants as stop
-use Rattle.lgc_parser.specs.Spelled.{Spelled, spelled_all}
-use Rattle.lgc_parser.specs.Gives.{Fails, Shortens}
-
-pub fails_through : {Y Z : Type 0} (bytes : List ℕ) (e : Stop) (r : Result Y (List Spelled × Why)) (s : Result Z (List Spelled × Why)) → ((d : List Spelled × Why) → r ≡ Err d → s ≡ Err d) → Fails bytes e r → Fails bytes e s
-fails_through bytes stop.Memory r s to h = tt
-fails_through bytes (stop.Unexpected rest) r s to h = to (spelled_all bytes rest.now, Unexpected) h
+use Rattle.lgc_tokens.specs.declared.stop.Stop.{Stop}
+use Rattle.lgc_tokens.specs.Spelled.{Spelled}
+use Rattle.lgc_tokens.specs.Gives.{Fails}
+use Rattle.lgc_tokens.proofs.Stops.{fails_through}
+use Rattle.lgc_parser.specs.Gives.{Shortens}
 
 module _ {A : Type 0} (p : Reader Spelled A) (q : Reader Spelled (List A)) (bytes : List ℕ) where
   -- the first of a list stops
@@ -63,8 +60,3 @@ module _ {A : Type 0} {first : Spelled → Bool} {p : Reader Spelled A} {L : Gra
   -- one of a list with optional separators stops
   pub cell_fails : (sep : Spelled → Bool) (front : List A) (total : Result (List A × List Spelled) (List Spelled × Why)) (ts : List Spelled) (e : Stop) → next_is (λ t. sep t || first t) ts ≡ true → Fails bytes e (p (past sep ts)) → with_front front (more_loosely_at sep first p ts) ≡ total → Fails bytes e total
   cell_fails sep front total ts e is h so_far = fails_through bytes e (p (past sep ts)) total (λ d f. loosely_stops sep first reads front total ts d is f so_far) h
-
--- what holds on success
-pub when_ok : {V E P : Type 0} (r : Result V E) (v : V) → r ≡ Ok v → OnOk r P → P
-when_ok (Ok x) v e h = h
-when_ok (Err d) v e h = absurd cc

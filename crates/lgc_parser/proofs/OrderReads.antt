@@ -1,7 +1,7 @@
 -- The readers of order texts read their grammar.
-use Rattle.std.proofs.Common.{◌≡◌, false, List, [], ◌∷◌, Ok, refl}
+use Rattle.std.proofs.Common.{◌≡◌, false, ℕ, List, [], ◌∷◌, Ok, Err, refl}
 use Rattle.std.specs.Prelude.{◌||◌}
-use Rattle.lgc_grammar.specs.Grammar.{AnswersAll, Separated}
+use Rattle.lgc_grammar.specs.Grammar.{AnswersAll, Breaks, Separated}
 use Rattle.lgc_grammar.specs.Reading.{whole}
 use Rattle.lgc_grammar.proofs.Readers.{ReadsAll, Must, May, never, whole_answers_all, whole_complete}
 use Rattle.lgc_grammar.proofs.Basic.{map_all}
@@ -9,15 +9,17 @@ use Rattle.lgc_grammar.proofs.Sequences.{between_all}
 use Rattle.lgc_grammar.proofs.Choices.{either_all, optional_all}
 use Rattle.lgc_grammar.proofs.Repetitions.{separated_all}
 use Rattle.lgc_parser.specs.declared.tree.Word.{Word}
-use Rattle.lgc_parser.specs.declared.class.Class.TheVariants.{Comma, Less, OpenBrace, CloseBrace}
-use Rattle.lgc_parser.specs.declared.terminal.Terminal.TheVariants.{OrderValue}
-use Rattle.lgc_parser.specs.Spelled.{Spelled}
-use Rattle.lgc_parser.specs.Classes.{same, order_values, is, starts_node}
+use Rattle.lgc_tokens.specs.declared.class.Class.TheVariants.{Comma, Less, OpenBrace, CloseBrace}
+use Rattle.lgc_tokens.specs.declared.terminal.Terminal.TheVariants.{OrderValue}
+use Rattle.lgc_tokens.specs.Spelled.{Spelled}
+use Rattle.lgc_tokens.specs.Classes.{same, order_values, is, starts_node}
 use Rattle.lgc_parser.specs.OrderGrammar.{Node, Chain, Order}
 use Rattle.lgc_parser.specs.OrderReading.{braced_at, node_at, chain_at, chains_at, order_at}
 use Rattle.lgc_parser.specs.Gives.{Shortens}
+use Rattle.lgc_parser.proofs.Tops.{unbroken}
 use Rattle.lgc_parser.proofs.Lists.{shortens}
-use Rattle.lgc_parser.proofs.Tables.{off, one, word_reads}
+use Rattle.lgc_tokens.proofs.Tables.{off, one}
+use Rattle.lgc_parser.proofs.WordReads.{word_reads}
 use Rattle.lgc_parser.proofs.WordReads.{words_read}
 
 pub node_reads : ReadsAll node_at Node (Must starts_node) never
@@ -42,6 +44,9 @@ order_reads = optional_all [] chains_read
 
 pub order_answers : (ts : List Spelled) → AnswersAll Order ts (whole order_at ts)
 order_answers = whole_answers_all order_reads
+
+pub order_unbroken : (ts rest : List Spelled) (n : ℕ) → order_at ts ≡ Err (rest, Breaks n) → ⊥
+order_unbroken = unbroken order_reads
 
 pub order_complete : (chains : List (List (List Word))) (ts : List Spelled) → Order (Ok chains) ts → whole order_at ts ≡ Ok chains
 order_complete = whole_complete order_reads

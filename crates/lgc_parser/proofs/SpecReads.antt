@@ -1,7 +1,7 @@
 -- The readers of specifications read their grammar.
-use Rattle.std.proofs.Common.{◌≡◌, ℕ, Bool, true, false, List, [], ◌∷◌, Ok, refl}
+use Rattle.std.proofs.Common.{◌≡◌, ℕ, Bool, true, false, List, [], ◌∷◌, Ok, Err, refl}
 use Rattle.std.specs.Prelude.{◌||◌}
-use Rattle.lgc_grammar.specs.Grammar.{Grammar, AnswersAll, Optional, Separated, Loosely}
+use Rattle.lgc_grammar.specs.Grammar.{Grammar, AnswersAll, Breaks, Optional, Separated, Loosely}
 use Rattle.lgc_grammar.specs.Reading.{Reader, whole}
 use Rattle.lgc_grammar.proofs.Readers.{ReadsAll, Start, Must, May, never, whole_answers_all, whole_complete}
 use Rattle.lgc_grammar.proofs.Basic.{nothing_all, map_all}
@@ -16,17 +16,19 @@ use Rattle.lgc_parser.specs.declared.tree.Statement.{Statement}
 use Rattle.lgc_parser.specs.declared.tree.Statement.TheVariants as statement
 use Rattle.lgc_parser.specs.declared.rows.RowKind.{RowKind}
 use Rattle.lgc_parser.specs.declared.rows.RowKind.TheVariants as kind
-use Rattle.lgc_parser.specs.declared.class.Class.{Class}
-use Rattle.lgc_parser.specs.declared.class.Class.TheVariants.{LogicWord, ValuesWord, DesignatedWord, OrderingWord, OperatorWord, QuantifierWord, MappingWord, TableWord, InducedWord, InfWord, Number, Text, OpenRound, CloseRound, OpenBrace, CloseBrace, OpenSquare, CloseSquare, Comma, Dot, Colon, Slash}
-use Rattle.lgc_parser.specs.declared.terminal.Terminal.TheVariants.{Only, Name, Value, LogicName, Bound}
-use Rattle.lgc_parser.specs.Spelled.{Spelled, place_of}
-use Rattle.lgc_parser.specs.Classes.{same, names, values, bounds, begins_row, begins_bracketed, is, is_name, is_value, is_bound, starts_row, starts_bracketed, starts_statement}
+use Rattle.lgc_tokens.specs.declared.class.Class.{Class}
+use Rattle.lgc_tokens.specs.declared.class.Class.TheVariants.{LogicWord, ValuesWord, DesignatedWord, OrderingWord, OperatorWord, QuantifierWord, MappingWord, TableWord, InducedWord, InfWord, Text, OpenRound, CloseRound, OpenBrace, CloseBrace, OpenSquare, CloseSquare, Comma, Dot, Colon, Slash}
+use Rattle.lgc_tokens.specs.declared.terminal.Terminal.TheVariants.{Only, NameOrSymbol, Value, LogicName, DigitsAlone, Bound}
+use Rattle.lgc_tokens.specs.Spelled.{Spelled, place_of}
+use Rattle.lgc_tokens.specs.Classes.{same, names_or_symbols, values, bounds, begins_row, begins_bracketed, is, is_name_or_symbol, is_value, is_bound, starts_row, starts_bracketed, starts_statement}
 use Rattle.lgc_parser.specs.SpecGrammar.{Values, Enclosed, Bracketed, Set, Cells, Several, Arguments, OpRow, QuantRow, Rows, OpMapping, OpTable, OpBound, BodyOfOp, QuantMapping, Sized, Induced, QuantInduced, QuantBound, BodyOfQuant, Logic, TruthValues, Designated, Ordering, Operator, Quantifier, OneStatement, Sentence, Spec}
 use Rattle.lgc_parser.specs.SpecGrammar as grammar
 use Rattle.lgc_parser.specs.SpecReading.{enclosed_at, bracketed_at, values_at, set_at, some_cells_at, inner_cells_at, cells_at, several_at, arguments_at, op_row_at, quant_row_at, row_at, starts, some_rows_at, inner_rows_at, rows_at, op_mapping_at, op_table_at, op_bound_at, op_body_at, quant_mapping_at, sized_at, induced_at, quant_induced_at, quant_bound_at, quant_body_at, logic_at, truth_values_at, designated_at, ordering_at, operator_at, quantifier_at, statement_at, sentence_at, spec_at}
 use Rattle.lgc_parser.specs.Gives.{Shortens}
+use Rattle.lgc_parser.proofs.Tops.{unbroken}
 use Rattle.lgc_parser.proofs.Lists.{shortens}
-use Rattle.lgc_parser.proofs.Tables.{off, one, one_of, word_reads}
+use Rattle.lgc_tokens.proofs.Tables.{off, one, one_of}
+use Rattle.lgc_parser.proofs.WordReads.{word_reads}
 use Rattle.lgc_parser.proofs.WordReads.{words_read}
 
 -- ---- in brackets
@@ -135,7 +137,7 @@ unfolding op_bound_at
 op_bound_reads =
     then_all (one_of Bound) (λ keyword.
     then_all (one OpenRound) (λ _.
-    then_all (word_reads Name) (λ ordering.
+    then_all (word_reads NameOrSymbol) (λ ordering.
     then_all (one CloseRound) (λ _.
     nothing_all (op.Bound (place_of keyword) (is InfWord keyword) ordering) never))))
 
@@ -150,17 +152,17 @@ quant_mapping_reads : ReadsAll quant_mapping_at QuantMapping (Must (is MappingWo
 unfolding quant_mapping_at
 quant_mapping_reads = then_all (one MappingWord) (λ _. then_all (rows_read kind.OfQuantifier) (λ rows. nothing_all (quant.Mapping rows.1 rows.2) never))
 
-sized_reads : ReadsAll sized_at Sized (Must is_name) never
+sized_reads : ReadsAll sized_at Sized (Must is_name_or_symbol) never
 unfolding sized_at
 sized_reads =
-    then_all (word_reads Name) (λ operator.
+    then_all (word_reads NameOrSymbol) (λ operator.
     then_all (one Slash) (λ _.
-    then_all (word_reads (Only Number)) (λ arity.
+    then_all (word_reads DigitsAlone) (λ arity.
     nothing_all (quant.Induced operator arity) never)))
 
-induced_reads : ReadsAll induced_at Induced (Must (λ t. is OpenRound t || is_name t)) never
+induced_reads : ReadsAll induced_at Induced (Must (λ t. is OpenRound t || is_name_or_symbol t)) never
 unfolding induced_at
-induced_reads = either_all (between_all (one OpenRound) sized_reads (one CloseRound) (λ t h. refl)) sized_reads (off names (same OpenRound) refl)
+induced_reads = either_all (between_all (one OpenRound) sized_reads (one CloseRound) (λ t h. refl)) sized_reads (off names_or_symbols (same OpenRound) refl)
 
 quant_induced_reads : ReadsAll quant_induced_at QuantInduced (Must (is InducedWord)) never
 unfolding quant_induced_at
@@ -171,7 +173,7 @@ unfolding quant_bound_at
 quant_bound_reads =
     then_all (one_of Bound) (λ keyword.
     then_all (one OpenRound) (λ _.
-    then_all (word_reads Name) (λ ordering.
+    then_all (word_reads NameOrSymbol) (λ ordering.
     then_all (one CloseRound) (λ _.
     nothing_all (quant.Bound (place_of keyword) (is InfWord keyword) ordering) never))))
 
@@ -201,7 +203,7 @@ unfolding ordering_at
 ordering_reads =
     then_all (one OrderingWord) (λ _.
     then_all (one OpenRound) (λ _.
-    then_all (word_reads Name) (λ name.
+    then_all (word_reads NameOrSymbol) (λ name.
     then_all (one Comma) (λ _.
     then_all (word_reads (Only Text)) (λ text.
     then_all (one CloseRound) (λ _.
@@ -212,9 +214,9 @@ unfolding operator_at
 operator_reads =
     then_all (one OperatorWord) (λ _.
     then_all (one OpenRound) (λ _.
-    then_all (word_reads Name) (λ name.
+    then_all (word_reads NameOrSymbol) (λ name.
     then_all (one Slash) (λ _.
-    then_all (word_reads (Only Number)) (λ arity.
+    then_all (word_reads DigitsAlone) (λ arity.
     then_all (one Comma) (λ _.
     then_all op_body_reads (λ body.
     then_all (one CloseRound) (λ _.
@@ -225,7 +227,7 @@ unfolding quantifier_at
 quantifier_reads =
     then_all (one QuantifierWord) (λ _.
     then_all (one OpenRound) (λ _.
-    then_all (word_reads Name) (λ name.
+    then_all (word_reads NameOrSymbol) (λ name.
     then_all (one Comma) (λ _.
     then_all quant_body_reads (λ body.
     then_all (one CloseRound) (λ _.
@@ -258,6 +260,9 @@ spec_answers = whole_answers_all spec_reads
 
 pub spec_complete : (statements : List Statement) (ts : List Spelled) → Spec (Ok statements) ts → whole spec_at ts ≡ Ok statements
 spec_complete = whole_complete spec_reads
+
+pub spec_unbroken : (ts rest : List Spelled) (n : ℕ) → spec_at ts ≡ Err (rest, Breaks n) → ⊥
+spec_unbroken = unbroken spec_reads
 
 -- reading one leaves no more tokens than there were
 pub row_shortens : (k : RowKind) → Shortens (row_at k)

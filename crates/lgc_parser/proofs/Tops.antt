@@ -1,9 +1,11 @@
 -- From the reader to the grammar, for any parser of all of the tokens.
-use Rattle.std.proofs.Common.{◌≡◌, ℕ, List, Result, Ok, Err, IfOk, sym, ◌∙◌}
-use Rattle.lgc_grammar.specs.Grammar.{Grammar, Why, AnswersAll}
+use Rattle.std.proofs.Common.{◌≡◌, ℕ, Bool, List, Result, Ok, Err, IfOk, refl, sym, subst, ◌∙◌}
+use Rattle.lgc_grammar.specs.Grammar.{Grammar, Why, Breaks, AnswersAll}
+use Rattle.lgc_grammar.specs.Reading.{Reader, whole}
+use Rattle.lgc_grammar.proofs.Readers.{ReadsAll, Start, whole_answers_all}
 use Rattle.lgc_parser.specs.declared.fault.SyntaxFault.{SyntaxFault}
 use Rattle.lgc_parser.specs.declared.fault.SyntaxFault.TheVariants as fault
-use Rattle.lgc_parser.specs.Spelled.{Spelled}
+use Rattle.lgc_tokens.specs.Spelled.{Spelled}
 use Rattle.lgc_parser.specs.Gives.{Says, IsTree}
 
 module _ {X A : Type 0} (end : ℕ) (view : X → A) (read : Result A (List Spelled × Why)) where
@@ -17,6 +19,13 @@ module _ {X A : Type 0} (end : ℕ) (view : X → A) (read : Result A (List Spel
   is_tree (Ok x) a e h = let same = sym h ∙ e in cc
   is_tree (Err fault.Memory) a e h = tt
   is_tree (Err (fault.Unexpected offset)) a e (rest, is, at_rest) = let same = sym is ∙ e in absurd cc
+
+-- a reader of a grammar without rules never tells that one is broken
+pub unbroken : {A : Type 0} {p : Reader Spelled A} {L : Grammar Spelled A} {start : Start Spelled} {go : Spelled → Bool} → ReadsAll p L start go → (ts rest : List Spelled) (n : ℕ) → p ts ≡ Err (rest, Breaks n) → ⊥
+unbroken {A} {p} {L} reads ts rest n e =
+    let stops : whole p ts ≡ Err (rest, Breaks n) = rw e refl in
+    let answer = subst (AnswersAll L ts) stops (whole_answers_all reads ts) in
+    absurd (let none = answer.0 in cc)
 
 -- what holds of each tree of the grammar holds of the tree that is answered
 pub tree_has : {X A : Type 0} (end : ℕ) (view : X → A) (L : Grammar Spelled A) (ts : List Spelled) (R : A → Type 0) (result : Result X SyntaxFault) → ((a : A) → L (Ok a) ts → R a) → Says (AnswersAll L ts) end view result → IfOk result (λ x. R (view x))

@@ -11,9 +11,10 @@ use Rattle.lgc_parser.specs.declared.tree.OpBody.TheVariants as op
 use Rattle.lgc_parser.specs.declared.tree.QuantBody.TheVariants as quant
 use Rattle.lgc_parser.specs.declared.tree.Statement.{Statement}
 use Rattle.lgc_parser.specs.declared.tree.Statement.TheVariants as statement
-use Rattle.lgc_parser.specs.declared.class.Class.TheVariants.{LogicWord, ValuesWord, DesignatedWord, OrderingWord, OperatorWord, QuantifierWord, MappingWord, TableWord, InducedWord, InfWord, Number, Text, Less, OpenRound, CloseRound, OpenBrace, CloseBrace, OpenSquare, CloseSquare, Comma, Dot, Colon, Slash}
-use Rattle.lgc_parser.specs.Spelled.{Spelled, spelled, spelled_all, token_word, word_of, place_of}
-use Rattle.lgc_parser.specs.Classes.{is, is_name, is_value, is_order_value, is_logic_name, is_bound}
+use Rattle.lgc_tokens.specs.declared.class.Class.TheVariants.{LogicWord, ValuesWord, DesignatedWord, OrderingWord, OperatorWord, QuantifierWord, MappingWord, TableWord, InducedWord, InfWord, Text, Less, OpenRound, CloseRound, OpenBrace, CloseBrace, OpenSquare, CloseSquare, Comma, Dot, Colon, Slash}
+use Rattle.lgc_tokens.specs.Spelled.{Spelled, spelled, spelled_all, place_of}
+use Rattle.lgc_parser.specs.Words.{token_word, word_of}
+use Rattle.lgc_tokens.specs.Classes.{is, is_name_or_symbol, is_value, is_order_value, is_logic_name, is_bound, is_digits_alone}
 use Rattle.lgc_parser.specs.TreeWords.{IsWordOf, RowHas, OpBodyHas, QuantBodyHas, StatementHas}
 use Rattle.lgc_parser.specs.OrderGrammar.{Node, Order}
 use Rattle.lgc_parser.specs.SpecGrammar.{Value, Values, Enclosed, Bracketed, Set, Cells, Several, Arguments, OpRow, QuantRow, Rows, OpMapping, OpTable, OpBound, BodyOfOp, QuantMapping, Sized, QuantInduced, QuantBound, BodyOfQuant, Logic, TruthValues, Designated, Ordering, Operator, Quantifier, OneStatement, Spec}
@@ -103,7 +104,7 @@ module _ (F : Spelled → Type 0) (P : Word → Type 0) (says : (t : Spelled) �
       table = behind_keeps F (OpBodyHas P) (One (is TableWord)) (λ t. then_keeps F (λ x. All P x.1) (OpBodyHas P) cells_keep (λ x r. nothing_keeps F (OpBodyHas P) (op.Table (place_of t) x.1) r))
 
       bound : Keeps F OpBound (OpBodyHas P)
-      bound = behind_keeps F (OpBodyHas P) (One is_bound) (λ t. behind_keeps F (OpBodyHas P) (One (is OpenRound)) (λ _. then_keeps F P (OpBodyHas P) (word is_name) (λ w h. behind_keeps F (OpBodyHas P) (One (is CloseRound)) (λ _. nothing_keeps F (OpBodyHas P) (op.Bound (place_of t) (is InfWord t) w) h))))
+      bound = behind_keeps F (OpBodyHas P) (One is_bound) (λ t. behind_keeps F (OpBodyHas P) (One (is OpenRound)) (λ _. then_keeps F P (OpBodyHas P) (word is_name_or_symbol) (λ w h. behind_keeps F (OpBodyHas P) (One (is CloseRound)) (λ _. nothing_keeps F (OpBodyHas P) (op.Bound (place_of t) (is InfWord t) w) h))))
 
   quant_body_keeps : Keeps F BodyOfQuant (QuantBodyHas P)
   quant_body_keeps = either_keeps F (QuantBodyHas P) mapping (either_keeps F (QuantBodyHas P) induced bound)
@@ -112,13 +113,13 @@ module _ (F : Spelled → Type 0) (P : Word → Type 0) (says : (t : Spelled) �
       mapping = behind_keeps F (QuantBodyHas P) (One (is MappingWord)) (λ _. then_keeps F (λ x. All (RowHas P) x.1) (QuantBodyHas P) (rows_keep quant_row_keeps) (λ x r. nothing_keeps F (QuantBodyHas P) (quant.Mapping x.1 x.2) r))
 
       sized : Keeps F Sized (QuantBodyHas P)
-      sized = then_keeps F P (QuantBodyHas P) (word is_name) (λ w h. behind_keeps F (QuantBodyHas P) (One (is Slash)) (λ _. then_keeps F P (QuantBodyHas P) (word (is Number)) (λ n g. nothing_keeps F (QuantBodyHas P) (quant.Induced w n) (h, g))))
+      sized = then_keeps F P (QuantBodyHas P) (word is_name_or_symbol) (λ w h. behind_keeps F (QuantBodyHas P) (One (is Slash)) (λ _. then_keeps F P (QuantBodyHas P) (word is_digits_alone) (λ n g. nothing_keeps F (QuantBodyHas P) (quant.Induced w n) (h, g))))
 
       induced : Keeps F QuantInduced (QuantBodyHas P)
       induced = behind_keeps F (QuantBodyHas P) (One (is InducedWord)) (λ _. then_keeps F (QuantBodyHas P) (QuantBodyHas P) (either_keeps F (QuantBodyHas P) (between_keeps F (QuantBodyHas P) (is OpenRound) (is CloseRound) sized) sized) (λ body h. nothing_keeps F (QuantBodyHas P) body h))
 
       bound : Keeps F QuantBound (QuantBodyHas P)
-      bound = behind_keeps F (QuantBodyHas P) (One is_bound) (λ t. behind_keeps F (QuantBodyHas P) (One (is OpenRound)) (λ _. then_keeps F P (QuantBodyHas P) (word is_name) (λ w h. behind_keeps F (QuantBodyHas P) (One (is CloseRound)) (λ _. nothing_keeps F (QuantBodyHas P) (quant.Bound (place_of t) (is InfWord t) w) h))))
+      bound = behind_keeps F (QuantBodyHas P) (One is_bound) (λ t. behind_keeps F (QuantBodyHas P) (One (is OpenRound)) (λ _. then_keeps F P (QuantBodyHas P) (word is_name_or_symbol) (λ w h. behind_keeps F (QuantBodyHas P) (One (is CloseRound)) (λ _. nothing_keeps F (QuantBodyHas P) (quant.Bound (place_of t) (is InfWord t) w) h))))
 
   logic_keeps : Keeps F Logic (StatementHas P)
   logic_keeps = behind_keeps F (StatementHas P) (One (is LogicWord)) (λ t. then_keeps F P (StatementHas P) (word is_logic_name) (λ w h. nothing_keeps F (StatementHas P) (statement.Logic (place_of t) w) h))
@@ -133,7 +134,7 @@ module _ (F : Spelled → Type 0) (P : Word → Type 0) (says : (t : Spelled) �
   ordering_keeps =
       behind_keeps F (StatementHas P) (One (is OrderingWord)) (λ _.
       behind_keeps F (StatementHas P) (One (is OpenRound)) (λ _.
-      then_keeps F P (StatementHas P) (word is_name) (λ name h.
+      then_keeps F P (StatementHas P) (word is_name_or_symbol) (λ name h.
       behind_keeps F (StatementHas P) (One (is Comma)) (λ _.
       then_keeps F P (StatementHas P) (word (is Text)) (λ text g.
       behind_keeps F (StatementHas P) (One (is CloseRound)) (λ _.
@@ -143,9 +144,9 @@ module _ (F : Spelled → Type 0) (P : Word → Type 0) (says : (t : Spelled) �
   operator_keeps =
       behind_keeps F (StatementHas P) (One (is OperatorWord)) (λ _.
       behind_keeps F (StatementHas P) (One (is OpenRound)) (λ _.
-      then_keeps F P (StatementHas P) (word is_name) (λ name h.
+      then_keeps F P (StatementHas P) (word is_name_or_symbol) (λ name h.
       behind_keeps F (StatementHas P) (One (is Slash)) (λ _.
-      then_keeps F P (StatementHas P) (word (is Number)) (λ arity g.
+      then_keeps F P (StatementHas P) (word is_digits_alone) (λ arity g.
       behind_keeps F (StatementHas P) (One (is Comma)) (λ _.
       then_keeps F (OpBodyHas P) (StatementHas P) op_body_keeps (λ body k.
       behind_keeps F (StatementHas P) (One (is CloseRound)) (λ _.
@@ -155,7 +156,7 @@ module _ (F : Spelled → Type 0) (P : Word → Type 0) (says : (t : Spelled) �
   quantifier_keeps =
       behind_keeps F (StatementHas P) (One (is QuantifierWord)) (λ _.
       behind_keeps F (StatementHas P) (One (is OpenRound)) (λ _.
-      then_keeps F P (StatementHas P) (word is_name) (λ name h.
+      then_keeps F P (StatementHas P) (word is_name_or_symbol) (λ name h.
       behind_keeps F (StatementHas P) (One (is Comma)) (λ _.
       then_keeps F (QuantBodyHas P) (StatementHas P) quant_body_keeps (λ body k.
       behind_keeps F (StatementHas P) (One (is CloseRound)) (λ _.
@@ -171,7 +172,7 @@ module _ (F : Spelled → Type 0) (P : Word → Type 0) (says : (t : Spelled) �
 
 -- t is one of the tokens, and has its word
 abbrev pub IsTokenOf : List ℕ → List Token → Spelled → Type 0
-IsTokenOf bytes all t = (word : IsWordOf bytes all (word_of t)) × (spelled bytes word.token ≡ t)
+IsTokenOf bytes all t = (word : IsWordOf bytes all (word_of t)) × (spelled bytes word.token word.behind ≡ t)
 
 pub tokens_have : (bytes : List ℕ) (all front ts : List Token) → all ≡ front ++ ts → AllIn bytes ts → AllByRecursion (IsTokenOf bytes all) (spelled_all bytes ts)
 tokens_have bytes all front [] e h = tt

@@ -1,24 +1,10 @@
--- What the functions that read have to answer.
+-- What the parsers have to answer.
 use Rattle.std.specs.Prelude.{◌≡◌, ◌≤◌, ℕ, List, length, Result, Ok, Err}
 use Rattle.lgc_grammar.specs.Reading.{Reader}
 use Rattle.lgc_grammar.specs.Grammar.{Why, Unexpected}
 use Rattle.lgc_parser.specs.declared.fault.SyntaxFault.{SyntaxFault}
 use Rattle.lgc_parser.specs.declared.fault.SyntaxFault.TheVariants as fault
-use Rattle.lgc_parser.specs.declared.fault.Stop.{Stop}
-use Rattle.lgc_parser.specs.declared.fault.Stop.TheVariants as stop
-use Rattle.lgc_parser.specs.Spelled.{Spelled, spelled_all, place}
-
--- reading stops before the same tokens
-abbrev pub Fails : {Y : Type 0} → List ℕ → Stop → Result Y (List Spelled × Why) → Type 0
-Fails bytes stop.Memory read = Unit {0}
-Fails bytes (stop.Unexpected rest) read = read ≡ Err (spelled_all bytes rest.now, Unexpected)
-
--- What a function returned, seen by view, is what reading gives, unless memory ran out.
-abbrev pub Gives : {X Y : Type 0} → List ℕ → (X → Y) → Result X Stop → Result Y (List Spelled × Why) → Type 0
-Gives bytes view (Ok x) read = read ≡ Ok (view x)
-Gives bytes view (Err e) read = Fails bytes e read
-
--- ---- all of the tokens
+use Rattle.lgc_tokens.specs.Spelled.{Spelled, place}
 
 -- What a parser returned, as an answer of reading with this property. A fault's offset is that of the first token that was
 -- left, or that of the end. Nothing is said where memory ran out.

@@ -9,9 +9,10 @@
 use Rattle.std.specs.Prelude.{List, [], ◌∷◌}
 use Rattle.lgc_grammar.specs.Grammar.{Grammar, One, Mapped, Either, Optional, Separated, Between}
 use Rattle.lgc_parser.specs.declared.tree.Word.{Word}
-use Rattle.lgc_parser.specs.declared.class.Class.TheVariants.{Comma, Less, OpenBrace, CloseBrace}
-use Rattle.lgc_parser.specs.Spelled.{Spelled, word_of}
-use Rattle.lgc_parser.specs.Classes.{is, is_order_value}
+use Rattle.lgc_tokens.specs.declared.class.Class.TheVariants.{Comma, Less, OpenBrace, CloseBrace}
+use Rattle.lgc_tokens.specs.Spelled.{Spelled}
+use Rattle.lgc_parser.specs.Words.{word_of}
+use Rattle.lgc_tokens.specs.Classes.{is, is_order_value}
 
 abbrev pub Value : Grammar Spelled Word
 Value = Mapped word_of (One is_order_value)

@@ -2,9 +2,9 @@
 use Rattle.std.specs.Prelude.{List, [], ◌∷◌}
 use Rattle.lgc_grammar.specs.Reading.{Reader, map_at, either_at, optional_at, separated_at, between_at}
 use Rattle.lgc_parser.specs.declared.tree.Word.{Word}
-use Rattle.lgc_parser.specs.declared.class.Class.TheVariants.{Comma, Less, OpenBrace, CloseBrace}
-use Rattle.lgc_parser.specs.Spelled.{Spelled}
-use Rattle.lgc_parser.specs.Classes.{is, is_order_value, starts_node}
+use Rattle.lgc_tokens.specs.declared.class.Class.TheVariants.{Comma, Less, OpenBrace, CloseBrace}
+use Rattle.lgc_tokens.specs.Spelled.{Spelled}
+use Rattle.lgc_tokens.specs.Classes.{is, is_order_value, starts_node}
 use Rattle.lgc_parser.specs.Reads.{word_at, words_at}
 
 -- values in braces

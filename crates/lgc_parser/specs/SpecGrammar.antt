@@ -9,13 +9,14 @@ use Rattle.lgc_parser.specs.declared.tree.QuantBody.{QuantBody}
 use Rattle.lgc_parser.specs.declared.tree.QuantBody.TheVariants as quant
 use Rattle.lgc_parser.specs.declared.tree.Statement.{Statement}
 use Rattle.lgc_parser.specs.declared.tree.Statement.TheVariants as statement
-use Rattle.lgc_parser.specs.declared.class.Class.TheVariants.{LogicWord, ValuesWord, DesignatedWord, OrderingWord, OperatorWord, QuantifierWord, MappingWord, TableWord, InducedWord, InfWord, Number, Text, OpenRound, CloseRound, OpenBrace, CloseBrace, OpenSquare, CloseSquare, Comma, Dot, Colon, Slash}
-use Rattle.lgc_parser.specs.Spelled.{Spelled, word_of, place_of}
-use Rattle.lgc_parser.specs.Classes.{is, is_name, is_value, is_logic_name, is_bound}
+use Rattle.lgc_tokens.specs.declared.class.Class.TheVariants.{LogicWord, ValuesWord, DesignatedWord, OrderingWord, OperatorWord, QuantifierWord, MappingWord, TableWord, InducedWord, InfWord, Text, OpenRound, CloseRound, OpenBrace, CloseBrace, OpenSquare, CloseSquare, Comma, Dot, Colon, Slash}
+use Rattle.lgc_tokens.specs.Spelled.{Spelled, place_of}
+use Rattle.lgc_parser.specs.Words.{word_of}
+use Rattle.lgc_tokens.specs.Classes.{is, is_name_or_symbol, is_value, is_logic_name, is_bound, is_digits_alone}
 
 -- name = Lower | Quoted | Symbol
 abbrev pub Name : Grammar Spelled Word
-Name = Mapped word_of (One is_name)
+Name = Mapped word_of (One is_name_or_symbol)
 
 -- value = Lower | Upper | Digits | Quoted | Symbol
 abbrev pub Value : Grammar Spelled Word
@@ -23,7 +24,7 @@ Value = Mapped word_of (One is_value)
 
 -- arity = Digits, of digits alone
 abbrev pub Arity : Grammar Spelled Word
-Arity = Mapped word_of (One (is Number))
+Arity = Mapped word_of (One is_digits_alone)
 
 -- value { "," value }
 abbrev pub Values : Grammar Spelled (List Word)

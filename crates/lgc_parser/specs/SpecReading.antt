@@ -11,9 +11,9 @@ use Rattle.lgc_parser.specs.declared.tree.Statement.{Statement}
 use Rattle.lgc_parser.specs.declared.tree.Statement.TheVariants as statement
 use Rattle.lgc_parser.specs.declared.rows.RowKind.{RowKind}
 use Rattle.lgc_parser.specs.declared.rows.RowKind.TheVariants as kind
-use Rattle.lgc_parser.specs.declared.class.Class.TheVariants.{LogicWord, ValuesWord, DesignatedWord, OrderingWord, OperatorWord, QuantifierWord, MappingWord, TableWord, InducedWord, InfWord, Number, Text, OpenRound, CloseRound, OpenBrace, CloseBrace, OpenSquare, CloseSquare, Comma, Dot, Colon, Slash}
-use Rattle.lgc_parser.specs.Spelled.{Spelled, place_of}
-use Rattle.lgc_parser.specs.Classes.{is, is_name, is_value, is_logic_name, is_bound, starts_row, starts_bracketed, starts_statement}
+use Rattle.lgc_tokens.specs.declared.class.Class.TheVariants.{LogicWord, ValuesWord, DesignatedWord, OrderingWord, OperatorWord, QuantifierWord, MappingWord, TableWord, InducedWord, InfWord, Text, OpenRound, CloseRound, OpenBrace, CloseBrace, OpenSquare, CloseSquare, Comma, Dot, Colon, Slash}
+use Rattle.lgc_tokens.specs.Spelled.{Spelled, place_of}
+use Rattle.lgc_tokens.specs.Classes.{is, is_name_or_symbol, is_value, is_logic_name, is_bound, starts_row, starts_bracketed, starts_statement, is_digits_alone}
 use Rattle.lgc_parser.specs.Reads.{word_at, words_at}
 
 -- ---- in brackets
@@ -109,7 +109,7 @@ unfoldable pub op_bound_at : Reader Spelled OpBody
 op_bound_at = do
   keyword ← one_at is_bound
   one_at (is OpenRound)
-  ordering ← word_at is_name
+  ordering ← word_at is_name_or_symbol
   one_at (is CloseRound)
   nothing_at (op.Bound (place_of keyword) (is InfWord keyword) ordering)
 
@@ -124,9 +124,9 @@ quant_mapping_at = do
 
 unfoldable pub sized_at : Reader Spelled QuantBody
 sized_at = do
-  operator ← word_at is_name
+  operator ← word_at is_name_or_symbol
   one_at (is Slash)
-  arity ← word_at (is Number)
+  arity ← word_at is_digits_alone
   nothing_at (quant.Induced operator arity)
 
 unfoldable pub induced_at : Reader Spelled QuantBody
@@ -142,7 +142,7 @@ unfoldable pub quant_bound_at : Reader Spelled QuantBody
 quant_bound_at = do
   keyword ← one_at is_bound
   one_at (is OpenRound)
-  ordering ← word_at is_name
+  ordering ← word_at is_name_or_symbol
   one_at (is CloseRound)
   nothing_at (quant.Bound (place_of keyword) (is InfWord keyword) ordering)
 
@@ -173,7 +173,7 @@ unfoldable pub ordering_at : Reader Spelled Statement
 ordering_at = do
   one_at (is OrderingWord)
   one_at (is OpenRound)
-  name ← word_at is_name
+  name ← word_at is_name_or_symbol
   one_at (is Comma)
   text ← word_at (is Text)
   one_at (is CloseRound)
@@ -183,9 +183,9 @@ unfoldable pub operator_at : Reader Spelled Statement
 operator_at = do
   one_at (is OperatorWord)
   one_at (is OpenRound)
-  name ← word_at is_name
+  name ← word_at is_name_or_symbol
   one_at (is Slash)
-  arity ← word_at (is Number)
+  arity ← word_at is_digits_alone
   one_at (is Comma)
   body ← op_body_at
   one_at (is CloseRound)
@@ -195,7 +195,7 @@ unfoldable pub quantifier_at : Reader Spelled Statement
 quantifier_at = do
   one_at (is QuantifierWord)
   one_at (is OpenRound)
-  name ← word_at is_name
+  name ← word_at is_name_or_symbol
   one_at (is Comma)
   body ← quant_body_at
   one_at (is CloseRound)

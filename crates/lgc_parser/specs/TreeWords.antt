@@ -9,7 +9,8 @@ use Rattle.lgc_parser.specs.declared.tree.QuantBody.{QuantBody}
 use Rattle.lgc_parser.specs.declared.tree.QuantBody.TheVariants as quant
 use Rattle.lgc_parser.specs.declared.tree.Statement.{Statement}
 use Rattle.lgc_parser.specs.declared.tree.Statement.TheVariants as statement
-use Rattle.lgc_parser.specs.Spelled.{Spelled, spelled, token_word}
+use Rattle.lgc_tokens.specs.Spelled.{Spelled, spelled}
+use Rattle.lgc_parser.specs.Words.{token_word}
 
 -- w is where one of the tokens stands and where its content, which lies in the bytes
 pub record IsWordOf (bytes : List ℕ) (ts : List Token) (w : Word) : Type 0 where
@@ -24,7 +25,7 @@ pub record IsWordOf (bytes : List ℕ) (ts : List Token) (w : Word) : Type 0 whe
 -- w is the word of one of the tokens, and this token passes the test
 pub record IsWordWhere (bytes : List ℕ) (ts : List Token) (test : Spelled → Bool) (w : Word) : Type 0 where
   pub word : IsWordOf bytes ts w
-  pub passes : test (spelled bytes word.token) ≡ true
+  pub passes : test (spelled bytes word.token word.behind) ≡ true
 
 -- ---- P holds of all words
 

@@ -1,16 +1,16 @@
 // How operators and quantifiers are defined.
 ghost use Rattle.std.specs.Prelude.{◌≡◌, length, IfOk};
 ghost use Rattle.lgc_lexer.specs.Spans.{AllIn};
-ghost use Rattle.lgc_parser.specs.Spelled.{spelled_all, IsShorter};
+ghost use Rattle.lgc_tokens.specs.Spelled.{spelled_all, IsShorter};
 ghost use Rattle.lgc_parser.specs.SpecReading.{op_mapping_at, op_table_at, op_bound_at, op_body_at, quant_mapping_at, sized_at, induced_at, quant_induced_at, quant_bound_at, quant_body_at};
-ghost use Rattle.lgc_parser.specs.Gives.{Gives};
+ghost use Rattle.lgc_tokens.specs.Gives.{Gives};
 
 use crate::cells::cells;
-use crate::class::Class;
 use crate::rows::{RowKind, rows};
-use crate::terminal::{Reading, Terminal, is_a, next_is, one, word};
 use crate::tree::{OpBody, QuantBody};
+use crate::words::word;
 use lgc_lexer::Token;
+use lgc_tokens::{Class, Reading, Terminal, is_a, next_is, one};
 use std::alloc::Global;
 
 #[tactic(auto, unfolding(crate::specs::SpecReading::op_mapping_at))]
@@ -47,11 +47,11 @@ fn op_bound<'a>(bytes: &[u8], tokens: &'a [Token]) -> Reading<'a, OpBody>
     ensures gives { Gives bytes.now (λ x. (x.0, spelled_all bytes.now x.1.now)) result (op_bound_at (spelled_all bytes.now tokens.now)) }
     ensures rest { IfOk result (λ x. IsShorter bytes.now tokens.now x.1.now) }
 {
-    let (keyword, rest) = one(bytes, Terminal::Bound, tokens)?;
-    let (_, rest) = one(bytes, Terminal::Only(Class::OpenRound), rest)?;
-    let (ordering, rest) = word(bytes, Terminal::Name, rest)?;
+    let (keyword, behind) = one(bytes, Terminal::Bound, tokens)?;
+    let (_, rest) = one(bytes, Terminal::Only(Class::OpenRound), behind)?;
+    let (ordering, rest) = word(bytes, Terminal::NameOrSymbol, rest)?;
     let (_, rest) = one(bytes, Terminal::Only(Class::CloseRound), rest)?;
-    let lower = is_a(bytes, Terminal::Only(Class::InfWord), &keyword);
+    let lower = is_a(bytes, Terminal::Only(Class::InfWord), &keyword, behind);
     Ok((
         OpBody::Bound {
             at: keyword.start,
@@ -96,9 +96,9 @@ fn sized<'a>(bytes: &[u8], tokens: &'a [Token]) -> Reading<'a, QuantBody>
     ensures gives { Gives bytes.now (λ x. (x.0, spelled_all bytes.now x.1.now)) result (sized_at (spelled_all bytes.now tokens.now)) }
     ensures rest { IfOk result (λ x. IsShorter bytes.now tokens.now x.1.now) }
 {
-    let (operator, rest) = word(bytes, Terminal::Name, tokens)?;
+    let (operator, rest) = word(bytes, Terminal::NameOrSymbol, tokens)?;
     let (_, rest) = one(bytes, Terminal::Only(Class::Slash), rest)?;
-    let (arity, rest) = word(bytes, Terminal::Only(Class::Number), rest)?;
+    let (arity, rest) = word(bytes, Terminal::DigitsAlone, rest)?;
     Ok((QuantBody::Induced { operator, arity }, rest))
 }
 
@@ -135,11 +135,11 @@ fn quant_bound<'a>(bytes: &[u8], tokens: &'a [Token]) -> Reading<'a, QuantBody>
     ensures gives { Gives bytes.now (λ x. (x.0, spelled_all bytes.now x.1.now)) result (quant_bound_at (spelled_all bytes.now tokens.now)) }
     ensures rest { IfOk result (λ x. IsShorter bytes.now tokens.now x.1.now) }
 {
-    let (keyword, rest) = one(bytes, Terminal::Bound, tokens)?;
-    let (_, rest) = one(bytes, Terminal::Only(Class::OpenRound), rest)?;
-    let (ordering, rest) = word(bytes, Terminal::Name, rest)?;
+    let (keyword, behind) = one(bytes, Terminal::Bound, tokens)?;
+    let (_, rest) = one(bytes, Terminal::Only(Class::OpenRound), behind)?;
+    let (ordering, rest) = word(bytes, Terminal::NameOrSymbol, rest)?;
     let (_, rest) = one(bytes, Terminal::Only(Class::CloseRound), rest)?;
-    let lower = is_a(bytes, Terminal::Only(Class::InfWord), &keyword);
+    let lower = is_a(bytes, Terminal::Only(Class::InfWord), &keyword, behind);
     Ok((
         QuantBody::Bound {
             at: keyword.start,

@@ -1,15 +1,15 @@
 // The cells of a table.
 ghost use Rattle.std.specs.Prelude.{◌≡◌, length, IfOk};
 ghost use Rattle.lgc_lexer.specs.Spans.{AllIn};
-ghost use Rattle.lgc_parser.specs.Spelled.{spelled_all, IsRest, IsShorter};
+ghost use Rattle.lgc_tokens.specs.Spelled.{spelled_all, IsRest, IsShorter};
 ghost use Rattle.lgc_parser.specs.SpecReading.{some_cells_at, inner_cells_at, cells_at};
-ghost use Rattle.lgc_parser.specs.Gives.{Gives};
+ghost use Rattle.lgc_tokens.specs.Gives.{Gives};
 
-use crate::class::Class;
 use crate::parts::{Part, bracketed};
-use crate::terminal::{Reading, Terminal, next_is, past, word};
 use crate::tree::Word;
+use crate::words::word;
 use lgc_lexer::Token;
+use lgc_tokens::{Class, Reading, Terminal, next_is, past};
 use lgc_values::List;
 use std::alloc::Global;
 

@@ -5,19 +5,19 @@ ghost use Rattle.lgc_grammar.specs.Reading.{whole};
 ghost use Rattle.lgc_lexer.specs.Tokens.{tokens_of};
 ghost use Rattle.lgc_lexer.specs.Spans.{AllIn};
 ghost use Rattle.lgc_parser.specs.declared.tree.Word.{Word};
-ghost use Rattle.lgc_parser.specs.Spelled.{spelled_all, IsRest, IsShorter};
+ghost use Rattle.lgc_tokens.specs.Spelled.{spelled_all, IsRest, IsShorter};
 ghost use Rattle.lgc_parser.specs.OrderGrammar.{Order};
 ghost use Rattle.lgc_parser.specs.OrderReading.{braced_at, node_at, chain_at, chains_at, order_at};
 ghost use Rattle.lgc_parser.specs.TreeWords.{IsWordOf};
-ghost use Rattle.lgc_parser.specs.Gives.{Gives, Says, IsTree};
+ghost use Rattle.lgc_tokens.specs.Gives.{Gives};
+ghost use Rattle.lgc_parser.specs.Gives.{Says, IsTree};
 
-use crate::class::Class;
-use crate::fault::{Stop, SyntaxFault};
+use crate::fault::SyntaxFault;
 use crate::parts::{Part, separated};
-use crate::terminal::{Reading, Terminal, next_is, one, place, word};
 use crate::tree::Word;
-use crate::words::words;
+use crate::words::{word, words};
 use lgc_lexer::Token;
+use lgc_tokens::{Class, Reading, Stop, Terminal, next_is, one, place};
 use lgc_values::List;
 use std::alloc::Global;
 
@@ -128,6 +128,7 @@ fn order<'a>(
     }
 }
 
+#[tactic(auto, using(crate::proofs::OrderReads::order_unbroken))]
 fn whole_order(
     alloc: Global,
     bytes: &[u8],
@@ -140,7 +141,10 @@ fn whole_order(
     match order(alloc, bytes, tokens) {
         Ok((chains, [])) => Ok(chains),
         Ok((_, rest)) => Err(SyntaxFault::Unexpected(place(bytes, rest))),
-        Err(Stop::Unexpected(rest)) => Err(SyntaxFault::Unexpected(place(bytes, rest))),
+        // No rule has a number in this grammar.
+        Err(Stop::Unexpected(rest) | Stop::Breaks(_, rest)) => {
+            Err(SyntaxFault::Unexpected(place(bytes, rest)))
+        }
         Err(Stop::Memory) => Err(SyntaxFault::Memory),
     }
 }

@@ -2,14 +2,14 @@
 ghost use Rattle.std.specs.Prelude.{◌≡◌, ◌≤◌, length, List, Ok, IfOk};
 ghost use Rattle.lgc_grammar.specs.Reading.{Reader, separated_at};
 ghost use Rattle.lgc_lexer.specs.Spans.{AllIn};
-ghost use Rattle.lgc_parser.specs.Spelled.{Spelled, spelled_all, IsRest, IsShorter};
-ghost use Rattle.lgc_parser.specs.Classes.{is};
+ghost use Rattle.lgc_tokens.specs.Spelled.{Spelled, spelled_all, IsRest, IsShorter};
+ghost use Rattle.lgc_tokens.specs.Classes.{is};
 ghost use Rattle.lgc_parser.specs.SpecReading.{enclosed_at, bracketed_at};
-ghost use Rattle.lgc_parser.specs.Gives.{Gives, Shortens};
+ghost use Rattle.lgc_tokens.specs.Gives.{Gives};
+ghost use Rattle.lgc_parser.specs.Gives.{Shortens};
 
-use crate::class::Class;
-use crate::terminal::{Reading, Terminal, next_is, one, skip};
 use lgc_lexer::Token;
+use lgc_tokens::{Class, Reading, Terminal, next_is, one, skip};
 use lgc_values::List;
 use std::alloc::Global;
 

@@ -1,17 +1,16 @@
 // The rows of mappings.
 ghost use Rattle.std.specs.Prelude.{◌≡◌, length, IfOk};
 ghost use Rattle.lgc_lexer.specs.Spans.{AllIn};
-ghost use Rattle.lgc_parser.specs.Spelled.{spelled_all, IsRest, IsShorter};
+ghost use Rattle.lgc_tokens.specs.Spelled.{spelled_all, IsRest, IsShorter};
 ghost use Rattle.lgc_parser.specs.SpecReading.{several_at, arguments_at, op_row_at, quant_row_at, row_at, some_rows_at, inner_rows_at, rows_at, starts};
-ghost use Rattle.lgc_parser.specs.Gives.{Gives};
+ghost use Rattle.lgc_tokens.specs.Gives.{Gives};
 ghost use Rattle.lgc_grammar.specs.Reading.{next_is};
 
-use crate::class::Class;
 use crate::parts::{Part, bracketed, separated};
-use crate::terminal::{Reading, Terminal, next_is, one, word};
 use crate::tree::{Row, Word};
-use crate::words::{set, values};
+use crate::words::{set, values, word};
 use lgc_lexer::Token;
+use lgc_tokens::{Class, Reading, Terminal, next_is, one};
 use lgc_values::List;
 use std::alloc::Global;
 

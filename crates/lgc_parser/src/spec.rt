@@ -5,18 +5,19 @@ ghost use Rattle.lgc_grammar.specs.Reading.{whole};
 ghost use Rattle.lgc_lexer.specs.Tokens.{tokens_of};
 ghost use Rattle.lgc_lexer.specs.Spans.{AllIn};
 ghost use Rattle.lgc_parser.specs.declared.tree.Statement.{Statement};
-ghost use Rattle.lgc_parser.specs.Spelled.{spelled_all, IsRest};
-ghost use Rattle.lgc_parser.specs.Classes.{is_name, is_value};
+ghost use Rattle.lgc_tokens.specs.Spelled.{spelled_all, IsRest};
+ghost use Rattle.lgc_tokens.specs.Classes.{is_name_or_symbol, is_value};
 ghost use Rattle.lgc_parser.specs.SpecGrammar.{Spec};
 ghost use Rattle.lgc_parser.specs.SpecReading.{spec_at};
 ghost use Rattle.lgc_parser.specs.TreeWords.{IsWordOf, IsWordWhere, StatementDeclares, StatementHas};
-ghost use Rattle.lgc_parser.specs.Gives.{Gives, Says, IsTree};
+ghost use Rattle.lgc_tokens.specs.Gives.{Gives};
+ghost use Rattle.lgc_parser.specs.Gives.{Says, IsTree};
 
-use crate::fault::{Stop, SyntaxFault};
+use crate::fault::SyntaxFault;
 use crate::statement::sentence;
-use crate::terminal::{Reading, Terminal, next_is, place};
 use crate::tree::{SpecTree, Statement};
 use lgc_lexer::Token;
+use lgc_tokens::{Reading, Stop, Terminal, next_is, place};
 use lgc_values::List;
 use std::alloc::Global;
 
@@ -35,6 +36,7 @@ fn statements<'a>(alloc: Global, bytes: &[u8], tokens: &'a [Token]) -> Reading<'
     Ok((statements, rest))
 }
 
+#[tactic(auto, using(crate::proofs::SpecReads::spec_unbroken))]
 fn whole_spec(alloc: Global, bytes: &[u8], tokens: &[Token]) -> Result<SpecTree, SyntaxFault>
     requires length { length bytes.now < 2 ^ 32 }
     requires tokens { AllIn bytes.now tokens.now }
@@ -43,7 +45,10 @@ fn whole_spec(alloc: Global, bytes: &[u8], tokens: &[Token]) -> Result<SpecTree,
     match statements(alloc, bytes, tokens) {
         Ok((statements, [])) => Ok(SpecTree { statements }),
         Ok((_, rest)) => Err(SyntaxFault::Unexpected(place(bytes, rest))),
-        Err(Stop::Unexpected(rest)) => Err(SyntaxFault::Unexpected(place(bytes, rest))),
+        // No rule has a number in this grammar.
+        Err(Stop::Unexpected(rest) | Stop::Breaks(_, rest)) => {
+            Err(SyntaxFault::Unexpected(place(bytes, rest)))
+        }
         Err(Stop::Memory) => Err(SyntaxFault::Memory),
     }
 }
@@ -60,7 +65,7 @@ pub fn parse_spec(alloc: Global, bytes: &[u8], tokens: &[Token]) -> Result<SpecT
     // Each word in it is one of the tokens, and its content lies in the bytes.
     ensures words { IfOk result (λ t. All (StatementHas (IsWordOf bytes.now tokens.now)) t.statements) }
     // A truth value is the word of a value token, and the name of an operator or a quantifier that of a name token.
-    ensures declared { IfOk result (λ t. All (StatementDeclares (IsWordWhere bytes.now tokens.now is_value) (IsWordWhere bytes.now tokens.now is_name)) t.statements) }
+    ensures declared { IfOk result (λ t. All (StatementDeclares (IsWordWhere bytes.now tokens.now is_value) (IsWordWhere bytes.now tokens.now is_name_or_symbol)) t.statements) }
     // The same as one function of the tokens.
     ensures exact { Says (λ r. whole spec_at (spelled_all bytes.now tokens.now) ≡ r) (length bytes.now) (λ t. t.statements) result }
 {

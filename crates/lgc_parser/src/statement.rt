@@ -1,16 +1,15 @@
 // Statements.
 ghost use Rattle.std.specs.Prelude.{◌≡◌, length, IfOk};
 ghost use Rattle.lgc_lexer.specs.Spans.{AllIn};
-ghost use Rattle.lgc_parser.specs.Spelled.{spelled_all, IsShorter};
+ghost use Rattle.lgc_tokens.specs.Spelled.{spelled_all, IsShorter};
 ghost use Rattle.lgc_parser.specs.SpecReading.{logic_at, truth_values_at, designated_at, ordering_at, operator_at, quantifier_at, statement_at, sentence_at};
-ghost use Rattle.lgc_parser.specs.Gives.{Gives};
+ghost use Rattle.lgc_tokens.specs.Gives.{Gives};
 
 use crate::bodies::{op_body, quant_body};
-use crate::class::Class;
-use crate::terminal::{Reading, Terminal, next_is, one, word};
 use crate::tree::Statement;
-use crate::words::set;
+use crate::words::{set, word};
 use lgc_lexer::Token;
+use lgc_tokens::{Class, Reading, Terminal, next_is, one};
 use std::alloc::Global;
 
 #[tactic(auto, unfolding(crate::specs::SpecReading::logic_at))]
@@ -72,7 +71,7 @@ fn ordering<'a>(bytes: &[u8], tokens: &'a [Token]) -> Reading<'a, Statement>
 {
     let (_, rest) = one(bytes, Terminal::Only(Class::OrderingWord), tokens)?;
     let (_, rest) = one(bytes, Terminal::Only(Class::OpenRound), rest)?;
-    let (name, rest) = word(bytes, Terminal::Name, rest)?;
+    let (name, rest) = word(bytes, Terminal::NameOrSymbol, rest)?;
     let (_, rest) = one(bytes, Terminal::Only(Class::Comma), rest)?;
     let (text, rest) = word(bytes, Terminal::Only(Class::Text), rest)?;
     let (_, rest) = one(bytes, Terminal::Only(Class::CloseRound), rest)?;
@@ -87,9 +86,9 @@ fn operator<'a>(alloc: Global, bytes: &[u8], tokens: &'a [Token]) -> Reading<'a,
 {
     let (_, rest) = one(bytes, Terminal::Only(Class::OperatorWord), tokens)?;
     let (_, rest) = one(bytes, Terminal::Only(Class::OpenRound), rest)?;
-    let (name, rest) = word(bytes, Terminal::Name, rest)?;
+    let (name, rest) = word(bytes, Terminal::NameOrSymbol, rest)?;
     let (_, rest) = one(bytes, Terminal::Only(Class::Slash), rest)?;
-    let (arity, rest) = word(bytes, Terminal::Only(Class::Number), rest)?;
+    let (arity, rest) = word(bytes, Terminal::DigitsAlone, rest)?;
     let (_, rest) = one(bytes, Terminal::Only(Class::Comma), rest)?;
     let (body, rest) = op_body(alloc, bytes, rest)?;
     let (_, rest) = one(bytes, Terminal::Only(Class::CloseRound), rest)?;
@@ -104,7 +103,7 @@ fn quantifier<'a>(alloc: Global, bytes: &[u8], tokens: &'a [Token]) -> Reading<'
 {
     let (_, rest) = one(bytes, Terminal::Only(Class::QuantifierWord), tokens)?;
     let (_, rest) = one(bytes, Terminal::Only(Class::OpenRound), rest)?;
-    let (name, rest) = word(bytes, Terminal::Name, rest)?;
+    let (name, rest) = word(bytes, Terminal::NameOrSymbol, rest)?;
     let (_, rest) = one(bytes, Terminal::Only(Class::Comma), rest)?;
     let (body, rest) = quant_body(alloc, bytes, rest)?;
     let (_, rest) = one(bytes, Terminal::Only(Class::CloseRound), rest)?;

@@ -1,19 +1,45 @@
-// Lists of words.
+// Words, and lists of them.
 ghost use Rattle.std.specs.Prelude.{◌≡◌, length, IfOk};
-ghost use Rattle.lgc_lexer.specs.Spans.{AllIn};
-ghost use Rattle.lgc_parser.specs.Spelled.{spelled_all, IsRest, IsShorter};
-ghost use Rattle.lgc_parser.specs.Classes.{is_a};
+ghost use Rattle.lgc_lexer.specs.Spans.{LiesIn, AllIn};
+ghost use Rattle.lgc_tokens.specs.Spelled.{spelled_all, IsRest, IsShorter};
+ghost use Rattle.lgc_tokens.specs.Classes.{is_a};
+ghost use Rattle.lgc_parser.specs.Words.{token_word};
 ghost use Rattle.lgc_parser.specs.Reads.{word_at, words_at};
 ghost use Rattle.lgc_parser.specs.SpecReading.{values_at, set_at};
-ghost use Rattle.lgc_parser.specs.Gives.{Gives};
+ghost use Rattle.lgc_tokens.specs.Gives.{Gives};
 
-use crate::class::Class;
 use crate::parts::{Part, bracketed, separated};
-use crate::terminal::{Reading, Terminal, next_is, word};
 use crate::tree::Word;
-use lgc_lexer::Token;
+use lgc_lexer::{Kind, Token};
+use lgc_tokens::{Class, Reading, Terminal, next_is, one};
 use lgc_values::List;
 use std::alloc::Global;
+
+fn word_of(token: &Token) -> Word
+    requires { LiesIn token.now.end token.now }
+    ensures { result ≡ token_word token.now }
+{
+    let quotes = match token.kind {
+        Kind::Quoted | Kind::Text => 1,
+        _ => 0,
+    };
+    Word {
+        start: token.start + quotes,
+        end: token.end - quotes,
+        at: token.start,
+    }
+}
+
+/// The word of the next token, which has to be of the terminal.
+#[tactic(auto, unfolding(crate::specs::Reads::word_at))]
+pub(crate) fn word<'a>(bytes: &[u8], terminal: Terminal, tokens: &'a [Token]) -> Reading<'a, Word>
+    requires { AllIn bytes.now tokens.now }
+    ensures gives { Gives bytes.now (λ x. (x.0, spelled_all bytes.now x.1.now)) result (word_at (is_a terminal) (spelled_all bytes.now tokens.now)) }
+    ensures rest { IfOk result (λ x. IsShorter bytes.now tokens.now x.1.now) }
+{
+    let (token, rest) = one(bytes, terminal, tokens)?;
+    Ok((word_of(&token), rest))
+}
 
 /// One word of a terminal.
 #[derive(Drop)]

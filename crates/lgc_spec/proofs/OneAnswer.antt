@@ -3,7 +3,7 @@ use Rattle.std.proofs.Common.{◌≡◌, ℕ, ◌+◌, List, length, Result, Ok,
 use Rattle.lgc_grammar.specs.Grammar.{Grammar}
 use Rattle.lgc_grammar.proofs.Exact.{stops_once, stops_in_none}
 use Rattle.lgc_lexer.specs.declared.token.Token.{Token}
-use Rattle.lgc_parser.specs.Spelled.{Spelled, spelled_all, place}
+use Rattle.lgc_tokens.specs.Spelled.{Spelled, spelled_all, place}
 use Rattle.lgc_spec.specs.declared.fault.SpecFault.{SpecFault}
 use Rattle.lgc_spec.specs.declared.fault.SpecFault.TheVariants.{Fault, Memory}
 use Rattle.lgc_spec.specs.declared.fault.TheConstants.{UNEXPECTED}

@@ -13,7 +13,7 @@ use Rattle.lgc_parser.specs.declared.tree.OpBody.TheVariants.{Mapping, Table, Bo
 use Rattle.lgc_parser.specs.declared.tree.QuantBody.{QuantBody}
 use Rattle.lgc_parser.specs.declared.tree.QuantBody.TheVariants as body
 use Rattle.lgc_parser.specs.declared.tree.Statement.{Statement}
-use Rattle.lgc_parser.specs.Spelled.{Spelled}
+use Rattle.lgc_tokens.specs.Spelled.{Spelled}
 use Rattle.lgc_parser.specs.SpecGrammar as grammar
 use Rattle.lgc_parser.specs.OrderGrammar.{Order}
 use Rattle.lgc_parser.proofs.SpecReads.{spec_complete}

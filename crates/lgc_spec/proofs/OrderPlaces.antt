@@ -17,7 +17,7 @@ use Rattle.lgc_orders.specs.Order.{LinksValues}
 use Rattle.lgc_parser.specs.declared.fault.SyntaxFault.{SyntaxFault}
 use Rattle.lgc_parser.specs.declared.fault.SyntaxFault.TheVariants as syntax
 use Rattle.lgc_parser.specs.declared.tree.Word.{Word}
-use Rattle.lgc_parser.specs.Spelled.{Spelled, spelled, spelled_all, place}
+use Rattle.lgc_tokens.specs.Spelled.{Spelled, spelled, spelled_all, place}
 use Rattle.lgc_parser.specs.Gives.{Says}
 use Rattle.lgc_parser.specs.OrderGrammar.{Order}
 use Rattle.lgc_spec.specs.Orderings.{pairs_of, chain_links, links_of}
@@ -72,7 +72,7 @@ place_within bytes tokens front [] all e = omega arith
 place_within bytes [] [] (r ∷ rest) all e = cc
 place_within bytes [] (f ∷ front) (r ∷ rest) all e = cc
 place_within bytes (t ∷ tokens) [] (r ∷ rest) all e =
-    let same : spelled bytes t ≡ r = cc in
+    let same : spelled bytes t tokens ≡ r = cc in
     let begins : t.start ≡ r.token.start = ap (λ s. s.token.start) same in
     omega (arith, all.0.0, all.0.1)
 place_within bytes (t ∷ tokens) (f ∷ front) (r ∷ rest) all e =

@@ -21,8 +21,8 @@ use Rattle.lgc_lexer.proofs.CutLaws.{are_tokens_of}
 use Rattle.lgc_parser.specs.declared.tree.Word.{Word}
 use Rattle.lgc_parser.specs.declared.tree.Statement.{Statement}
 use Rattle.lgc_parser.specs.declared.tree.Statement.TheVariants as statement
-use Rattle.lgc_parser.specs.Spelled.{spelled}
-use Rattle.lgc_parser.specs.Classes.{is_name, is_value}
+use Rattle.lgc_tokens.specs.Spelled.{spelled}
+use Rattle.lgc_tokens.specs.Classes.{is_name_or_symbol, is_value}
 use Rattle.lgc_parser.specs.TreeWords.{IsWordWhere, StatementDeclares}
 use Rattle.lgc_parser.proofs.ValueKinds.{name_is_value, value_kind}
 use Rattle.lgc_spec.specs.Words.{SaysPlainName}
@@ -105,17 +105,17 @@ module _ (bytes : List ℕ) (tokens : List Token) (given : tokens_given 0 bytes 
   value_plain w h =
       let t : Token = h.word.token in
       let law = formed bytes (HasOnlyGap bytes) 0 h.word.before t h.word.behind (subst (λ ts. AreNext bytes (HasOnlyGap bytes) 0 ts) h.word.among (are_tokens_of bytes tokens (given_tokens 0 bytes tokens given))) in
-      let kind = value_kind (spelled bytes t) h.passes in
+      let kind = value_kind (spelled bytes t h.word.behind) h.passes in
       rw h.word.says (content_plain bytes t.kind t.start t.end kind.0 kind.1 (omega (arith, law.1.0)) law.1.1 law.0)
 
-  name_plain : (w : Word) → IsWordWhere bytes tokens is_name w → SaysPlainName bytes w
-  name_plain w h = value_plain w (record { word = h.word; passes = name_is_value (spelled bytes h.word.token) h.passes })
+  name_plain : (w : Word) → IsWordWhere bytes tokens is_name_or_symbol w → SaysPlainName bytes w
+  name_plain w h = value_plain w (record { word = h.word; passes = name_is_value (spelled bytes h.word.token h.word.behind) h.passes })
 
-  declares_plain : (s : Statement) → StatementDeclares (IsWordWhere bytes tokens is_value) (IsWordWhere bytes tokens is_name) s → StatementDeclares (SaysPlainName bytes) (SaysPlainName bytes) s
+  declares_plain : (s : Statement) → StatementDeclares (IsWordWhere bytes tokens is_value) (IsWordWhere bytes tokens is_name_or_symbol) s → StatementDeclares (SaysPlainName bytes) (SaysPlainName bytes) s
   declares_plain (statement.Values at words) h = All-weaker (IsWordWhere bytes tokens is_value) (SaysPlainName bytes) value_plain words h
   declares_plain (statement.Operator name arity body) h = name_plain name h
   declares_plain (statement.Quantifier name body) h = name_plain name h
   declares_plain s h = tt
 
-  pub names_plain : (statements : List Statement) → All (StatementDeclares (IsWordWhere bytes tokens is_value) (IsWordWhere bytes tokens is_name)) statements → All (StatementDeclares (SaysPlainName bytes) (SaysPlainName bytes)) statements
+  pub names_plain : (statements : List Statement) → All (StatementDeclares (IsWordWhere bytes tokens is_value) (IsWordWhere bytes tokens is_name_or_symbol)) statements → All (StatementDeclares (SaysPlainName bytes) (SaysPlainName bytes)) statements
   names_plain statements all = All-weaker _ (StatementDeclares (SaysPlainName bytes) (SaysPlainName bytes)) declares_plain statements all

@@ -5,7 +5,7 @@ use Rattle.lgc_lexer.specs.declared.token.Token.{Token}
 use Rattle.lgc_lexer.specs.declared.fault.LexFault.{LexFault}
 use Rattle.lgc_lexer.specs.declared.fault.LexFault.TheVariants.{BadByte, OpenQuote, Memory}
 use Rattle.lgc_lexer.specs.Tokens.{tokens_of}
-use Rattle.lgc_parser.specs.Spelled.{Spelled, spelled_all, place}
+use Rattle.lgc_tokens.specs.Spelled.{Spelled, spelled_all, place}
 use Rattle.lgc_spec.specs.declared.fault.SpecFault.{SpecFault}
 use Rattle.lgc_spec.specs.declared.fault.SpecFault.TheVariants as fault
 use Rattle.lgc_spec.specs.declared.fault.TheConstants.{BAD_BYTE, OPEN_QUOTE, UNEXPECTED}

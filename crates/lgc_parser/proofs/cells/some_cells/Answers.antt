@@ -2,13 +2,14 @@ use Rattle.std.proofs.Common.{sym, arith}
 use Rattle.std.proofs.lemmas.Result.{err_from_is_err_and}
 use Rattle.lgc_grammar.specs.Reading.{more_loosely_at}
 use Rattle.lgc_grammar.proofs.Loops.{list_begins, loosely_takes, loosely_ended}
-use Rattle.lgc_parser.specs.declared.class.Class.TheVariants.{Comma}
-use Rattle.lgc_parser.specs.declared.terminal.Terminal.TheVariants.{Value}
-use Rattle.lgc_parser.specs.Classes.{is, is_value}
+use Rattle.lgc_tokens.specs.declared.class.Class.TheVariants.{Comma}
+use Rattle.lgc_tokens.specs.declared.terminal.Terminal.TheVariants.{Value}
+use Rattle.lgc_tokens.specs.Classes.{is, is_value}
 use Rattle.lgc_parser.specs.Reads.{word_at}
 use Rattle.lgc_parser.specs.SpecReading.{some_cells_at}
-use Rattle.lgc_parser.proofs.Tables.{word_reads}
-use Rattle.lgc_parser.proofs.Lists.{first_fails, cell_fails, when_ok}
+use Rattle.lgc_parser.proofs.WordReads.{word_reads}
+use Rattle.lgc_tokens.proofs.Stops.{when_ok}
+use Rattle.lgc_parser.proofs.Lists.{first_fails, cell_fails}
 use Rattle.lgc_parser.proofs.cells.some_cells.Goals as goal
 
 pub returns-in_err-first-clause-gives : goal.returns-in_err-first-clause-gives

@@ -1,9 +1,9 @@
 use Rattle.std.proofs.Common.{◌≡◌, length}
 use Rattle.lgc_grammar.specs.Reading.{more_loosely_at}
 use Rattle.lgc_grammar.proofs.Loops.{with_front}
-use Rattle.lgc_parser.specs.declared.class.Class.TheVariants.{Comma}
-use Rattle.lgc_parser.specs.Spelled.{IsRest, spelled_all}
-use Rattle.lgc_parser.specs.Classes.{is, is_value}
+use Rattle.lgc_tokens.specs.declared.class.Class.TheVariants.{Comma}
+use Rattle.lgc_tokens.specs.Spelled.{IsRest, spelled_all}
+use Rattle.lgc_tokens.specs.Classes.{is, is_value}
 use Rattle.lgc_parser.specs.Reads.{word_at}
 use Rattle.lgc_parser.specs.SpecReading.{some_cells_at}
 use Rattle.lgc_parser.proofs.cells.some_cells.Given as goal

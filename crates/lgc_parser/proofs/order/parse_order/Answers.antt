@@ -1,7 +1,7 @@
 use Rattle.std.proofs.Common.{[], refl, All}
 use Rattle.lgc_grammar.specs.Grammar.{AnswersAll}
 use Rattle.lgc_lexer.proofs.SpanLaws.{tokens_all_in}
-use Rattle.lgc_parser.specs.Spelled.{spelled_all}
+use Rattle.lgc_tokens.specs.Spelled.{spelled_all}
 use Rattle.lgc_parser.specs.TreeWords.{IsWordOf}
 use Rattle.lgc_parser.specs.OrderGrammar.{Order}
 use Rattle.lgc_parser.proofs.OrderReads.{order_answers, order_complete}

@@ -1,7 +1,8 @@
 use Rattle.std.proofs.Common.{arith}
 use Rattle.std.proofs.lemmas.Result.{err_from_is_err_and}
-use Rattle.lgc_parser.specs.Classes.{is}
-use Rattle.lgc_parser.proofs.Lists.{part_taken, part_fails, parts_ended, when_ok}
+use Rattle.lgc_tokens.specs.Classes.{is}
+use Rattle.lgc_tokens.proofs.Stops.{when_ok}
+use Rattle.lgc_parser.proofs.Lists.{part_taken, part_fails, parts_ended}
 use Rattle.lgc_parser.proofs.parts.separated.Goals as goal
 
 pub returns-in_err-next-clause-gives : goal.returns-in_err-next-clause-gives

@@ -1,8 +1,8 @@
 use Rattle.std.proofs.Common.{◌≡◌, length}
 use Rattle.lgc_grammar.specs.Reading.{more_at, separated_at}
 use Rattle.lgc_grammar.proofs.Loops.{with_front}
-use Rattle.lgc_parser.specs.Spelled.{IsRest, spelled_all}
-use Rattle.lgc_parser.specs.Classes.{is}
+use Rattle.lgc_tokens.specs.Spelled.{IsRest, spelled_all}
+use Rattle.lgc_tokens.specs.Classes.{is}
 use Rattle.lgc_parser.proofs.parts.separated.Given as goal
 
 abbrev pub invariant-loop-after : goal.invariant-loop-after

@@ -1,8 +1,8 @@
 use Rattle.std.proofs.Common.{[], refl, All}
 use Rattle.lgc_grammar.specs.Grammar.{AnswersAll}
 use Rattle.lgc_lexer.proofs.SpanLaws.{tokens_all_in}
-use Rattle.lgc_parser.specs.Spelled.{spelled_all}
-use Rattle.lgc_parser.specs.Classes.{is_name, is_value}
+use Rattle.lgc_tokens.specs.Spelled.{spelled_all}
+use Rattle.lgc_tokens.specs.Classes.{is_name_or_symbol, is_value}
 use Rattle.lgc_parser.specs.TreeWords.{IsWordOf, IsWordWhere, StatementDeclares, StatementHas}
 use Rattle.lgc_parser.specs.SpecGrammar.{Spec}
 use Rattle.lgc_parser.proofs.SpecReads.{spec_answers, spec_complete}
@@ -32,4 +32,4 @@ returns-clause-declared c =
     let tokens = c.args.tokens.now in
     let ts = spelled_all bytes tokens in
     let have = tokens_have bytes tokens [] tokens refl (tokens_all_in _ _ c.requires.tokens) in
-    tree_has _ (λ t. t.statements) Spec ts (All (StatementDeclares (IsWordWhere bytes tokens is_value) (IsWordWhere bytes tokens is_name))) _ (λ tree h. (spec_declares bytes tokens).keeps tree ts h have) (says_too _ (λ t. t.statements) _ (AnswersAll Spec ts) _ (spec_answers ts) c.whole_spec.ensures)
+    tree_has _ (λ t. t.statements) Spec ts (All (StatementDeclares (IsWordWhere bytes tokens is_value) (IsWordWhere bytes tokens is_name_or_symbol))) _ (λ tree h. (spec_declares bytes tokens).keeps tree ts h have) (says_too _ (λ t. t.statements) _ (AnswersAll Spec ts) _ (spec_answers ts) c.whole_spec.ensures)

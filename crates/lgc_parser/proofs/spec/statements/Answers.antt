@@ -3,7 +3,8 @@ use Rattle.std.proofs.lemmas.Result.{err_from_is_err_and}
 use Rattle.lgc_grammar.proofs.Loops.{begins_many, many_takes, many_ended}
 use Rattle.lgc_parser.specs.SpecReading.{spec_at}
 use Rattle.lgc_parser.proofs.SpecReads.{sentence_reads}
-use Rattle.lgc_parser.proofs.Lists.{next_fails, when_ok}
+use Rattle.lgc_tokens.proofs.Stops.{when_ok}
+use Rattle.lgc_parser.proofs.Lists.{next_fails}
 use Rattle.lgc_parser.proofs.spec.statements.Goals as goal
 
 pub loop-alloc-init : goal.loop-alloc-init

@@ -1,8 +1,8 @@
 use Rattle.std.proofs.Common.{◌≡◌, length}
 use Rattle.lgc_grammar.specs.Reading.{many_at}
 use Rattle.lgc_grammar.proofs.Loops.{with_front}
-use Rattle.lgc_parser.specs.Spelled.{IsRest, spelled_all}
-use Rattle.lgc_parser.specs.Classes.{starts_statement}
+use Rattle.lgc_tokens.specs.Spelled.{IsRest, spelled_all}
+use Rattle.lgc_tokens.specs.Classes.{starts_statement}
 use Rattle.lgc_parser.specs.SpecReading.{sentence_at, spec_at}
 use Rattle.lgc_parser.proofs.spec.statements.Given as goal
 

@@ -1,22 +1,23 @@
 -- Single tokens: a token of each class, and that no token passes two tests of different classes.
-use Rattle.std.proofs.Common.{◌≡◌, ℕ, Bool, true, false, List, [], Some, refl, ap, ◌∙◌}
+use Rattle.std.proofs.Common.{◌≡◌, ℕ, Bool, true, false, List, [], Option, Some, refl, ap, ◌∙◌}
 use Rattle.std.specs.Prelude.{codes, not, ◌&&◌}
-use Rattle.lgc_grammar.specs.Grammar.{One, Mapped}
-use Rattle.lgc_grammar.specs.Reading.{one_at}
-use Rattle.lgc_grammar.proofs.Readers.{ReadsAll, Must, never}
-use Rattle.lgc_grammar.proofs.Basic.{one_reads, map_all}
+use Rattle.lgc_grammar.specs.Grammar.{One, Allowed, PlainOne}
+use Rattle.lgc_grammar.specs.Reading.{one_at, allowed_at}
+use Rattle.lgc_grammar.proofs.Readers.{Reads, ReadsAll, Must, never}
+use Rattle.lgc_grammar.proofs.Basic.{one_reads}
+use Rattle.lgc_grammar.proofs.AllowedTokens.{allowed_reads}
 use Rattle.lgc_grammar.proofs.Classes.{IsTable, entry, all_pass, apart}
 use Rattle.lgc_lexer.specs.declared.token.Kind.{Kind}
 use Rattle.lgc_lexer.specs.declared.token.Kind.TheVariants as kind
-use Rattle.lgc_parser.specs.declared.class.Class.{Class}
-use Rattle.lgc_parser.specs.declared.class.Class.TheVariants.{LogicWord, ValuesWord, DesignatedWord, OrderingWord, OperatorWord, QuantifierWord, MappingWord, TableWord, InducedWord, InfWord, SupWord, Lower, Upper, Number, Mixed, Quoted, Text, Less, Symbol, OpenRound, CloseRound, OpenBrace, CloseBrace, OpenSquare, CloseSquare, Comma, Dot, Colon, Slash, Punct}
-use Rattle.lgc_parser.specs.declared.terminal.Terminal.{Terminal}
-use Rattle.lgc_parser.specs.declared.terminal.Terminal.TheVariants as terminal
-use Rattle.lgc_parser.specs.Spelled.{Spelled, word_of}
-use Rattle.lgc_parser.specs.Classes.{classes, place, same, class_of, class_of_word, class_of_punct, passes, is, is_a}
-use Rattle.lgc_parser.specs.Reads.{word_at}
+use Rattle.lgc_tokens.specs.declared.class.Class.{Class}
+use Rattle.lgc_tokens.specs.declared.class.Class.TheVariants.{LogicWord, ValuesWord, DesignatedWord, OrderingWord, OperatorWord, QuantifierWord, MappingWord, TableWord, InducedWord, InfWord, SupWord, RuleWord, AtWord, AllWord, SomeWord, Lower, Upper, Zero, CaretZero, Number, Digits, Mixed, Quoted, Text, Less, Caret, Symbol, OpenRound, CloseRound, OpenBrace, CloseBrace, OpenSquare, CloseSquare, Comma, Dot, Colon, Semicolon, Slash, Punct}
+use Rattle.lgc_tokens.specs.declared.terminal.Terminal.{Terminal}
+use Rattle.lgc_tokens.specs.declared.terminal.Terminal.TheVariants as terminal
+use Rattle.lgc_tokens.specs.Numbers.{number_in}
+use Rattle.lgc_tokens.specs.Spelled.{Spelled}
+use Rattle.lgc_tokens.specs.Classes.{classes, place, same, class_of, class_of_word, class_of_punct, passes, is, is_a}
 
-table : IsTable classes
+pub table : IsTable classes
 table = record { place = place; holds = holds }
   where
     holds : (c : Class) → entry classes (place c) ≡ Some c
@@ -28,7 +29,7 @@ pub off : (f g : Class → Bool) → all_pass (λ c. not (f c && g c)) classes �
 off = apart table class_of
 
 abbrev spelt : Kind → List ℕ → Spelled
-spelt k text = record { token = record { kind = k; start = 0; end = 0 }; text = text }
+spelt k text = record { token = record { kind = k; start = 0; end = 0 }; text = text; before_caret = false }
 
 -- a token of each class
 abbrev token : Class → Spelled
@@ -43,13 +44,21 @@ token TableWord = spelt kind.Lower (codes "table")
 token InducedWord = spelt kind.Lower (codes "induced_by")
 token InfWord = spelt kind.Lower (codes "inf")
 token SupWord = spelt kind.Lower (codes "sup")
+token RuleWord = spelt kind.Lower (codes "rule")
+token AtWord = spelt kind.Lower (codes "at")
+token AllWord = spelt kind.Lower (codes "all")
+token SomeWord = spelt kind.Lower (codes "some")
 token Lower = spelt kind.Lower (codes "x")
 token Upper = spelt kind.Upper (codes "X")
+token Zero = spelt kind.Digits (codes "0")
+token CaretZero = record (spelt kind.Digits (codes "0")) { before_caret = true }
 token Number = spelt kind.Digits (codes "1")
+token Digits = spelt kind.Digits (codes "00")
 token Mixed = spelt kind.Digits (codes "1x")
 token Quoted = spelt kind.Quoted (codes "x")
 token Text = spelt kind.Text []
 token Less = spelt kind.Symbol (codes "<")
+token Caret = spelt kind.Symbol (codes "^")
 token Symbol = spelt kind.Symbol (codes "+")
 token OpenRound = spelt kind.Punct (codes "(")
 token CloseRound = spelt kind.Punct (codes ")")
@@ -60,11 +69,12 @@ token CloseSquare = spelt kind.Punct (codes "]")
 token Comma = spelt kind.Punct (codes ",")
 token Dot = spelt kind.Punct (codes ".")
 token Colon = spelt kind.Punct (codes ":")
+token Semicolon = spelt kind.Punct (codes ";")
 token Slash = spelt kind.Punct (codes "/")
-token Punct = spelt kind.Punct (codes ";")
+token Punct = spelt kind.Punct (codes "-")
 
 is_of_class : (c : Class) → class_of (token c) ≡ c
-unfolding class_of class_of_word class_of_punct
+unfolding class_of class_of_word class_of_punct number_in
 is_of_class LogicWord = refl
 is_of_class c = refl
 
@@ -72,7 +82,12 @@ is_of_class c = refl
 abbrev sample : Terminal → Class
 sample (terminal.Only c) = c
 sample terminal.LogicName = Text
+sample terminal.DigitsAlone = Number
+sample terminal.Number = Number
+sample terminal.Argument = Number
+sample terminal.Zero = Zero
 sample terminal.Bound = InfWord
+sample terminal.QuantifierClause = AllWord
 sample terminal.BracketedStart = OpenBrace
 sample terminal.StatementStart = LogicWord
 sample _ = Lower
@@ -86,13 +101,17 @@ sample_passes (terminal.Only c) = by c
 sample_passes terminal.Name = refl
 sample_passes t = refl
 
--- one token of a terminal, and its word
-pub one_of : (t : Terminal) → ReadsAll (one_at (is_a t)) (One (is_a t)) (Must (is_a t)) never
-one_of t = one_reads (is_a t) (token (sample t)) (ap (passes t) (is_of_class (sample t)) ∙ sample_passes t)
+some_passes : (t : Terminal) → is_a t (token (sample t)) ≡ true
+some_passes t = ap (passes t) (is_of_class (sample t)) ∙ sample_passes t
 
+-- one token of a terminal
+pub one_of : (t : Terminal) → ReadsAll (one_at (is_a t)) (One (is_a t)) (Must (is_a t)) never
+one_of t = one_reads (is_a t) (token (sample t)) (some_passes t)
+
+-- one token of a class
 pub one : (c : Class) → ReadsAll (one_at (is c)) (One (is c)) (Must (is c)) never
 one c = one_of (terminal.Only c)
 
-pub word_reads : (t : Terminal) → ReadsAll (word_at (is_a t)) (Mapped word_of (One (is_a t))) (Must (is_a t)) never
-unfolding word_at
-word_reads t = map_all word_of (one_of t)
+-- one token of a terminal that may break a rule
+pub allowed : (t : Terminal) (fault : Spelled → Option ℕ) → Reads (allowed_at (is_a t) fault) (Allowed (is_a t) fault) (PlainOne (is_a t)) (Must (is_a t)) never
+allowed t fault = allowed_reads (is_a t) fault (token (sample t)) (some_passes t)

@@ -1,16 +1,15 @@
 // What a token is to the grammars.
 ghost use Rattle.std.specs.Prelude.{◌≡◌, length};
-ghost use Rattle.std.specs.List.{list_all};
-ghost use Rattle.std.specs.Char.{is_ascii_digit};
-ghost use Rattle.lgc_lexer.specs.Spans.{LiesIn};
-ghost use Rattle.lgc_parser.specs.Spelled.{spelled};
-ghost use Rattle.lgc_parser.specs.Classes.{class_of, class_of_word, class_of_punct, same, is_lower};
+ghost use Rattle.lgc_lexer.specs.Spans.{LiesIn, AllIn};
+ghost use Rattle.lgc_tokens.specs.Spelled.{spelled, is_caret, begins_with_caret};
+ghost use Rattle.lgc_tokens.specs.Classes.{class_of, class_of_word, class_of_number, class_of_digits, class_of_symbol, class_of_punct, same, is_lower};
 
+use crate::number::{are_digits, number_in};
 use lgc_lexer::{Kind, Token, content};
 
 /// The tokens that the grammars tell apart.
 #[derive(Clone, Copy, Debug, PartialEq, Eq)]
-pub(crate) enum Class {
+pub enum Class {
     LogicWord,
     ValuesWord,
     DesignatedWord,
@@ -22,17 +21,29 @@ pub(crate) enum Class {
     InducedWord,
     InfWord,
     SupWord,
+    RuleWord,
+    AtWord,
+    AllWord,
+    SomeWord,
     /// A Lower that is no keyword.
     Lower,
     Upper,
-    /// A Digits of digits alone.
+    /// The number 0 without a Symbol `^` behind it.
+    Zero,
+    /// The number 0 with a Symbol `^` behind it.
+    CaretZero,
+    /// Another number.
     Number,
+    /// A Digits of digits alone that is no number: with a leading zero, or too large.
+    Digits,
     /// A Digits with a letter or `_`.
     Mixed,
     Quoted,
     Text,
     /// The Symbol `<`.
     Less,
+    /// The Symbol `^`.
+    Caret,
     /// Another Symbol.
     Symbol,
     OpenRound,
@@ -44,6 +55,7 @@ pub(crate) enum Class {
     Comma,
     Dot,
     Colon,
+    Semicolon,
     Slash,
     /// A Punct that no grammar names.
     Punct,
@@ -72,6 +84,10 @@ pub(crate) fn is_lower(class: Class) -> bool
             | Class::InducedWord
             | Class::InfWord
             | Class::SupWord
+            | Class::RuleWord
+            | Class::AtWord
+            | Class::AllWord
+            | Class::SomeWord
             | Class::Lower
     )
 }
@@ -102,6 +118,14 @@ fn class_of_word(text: &[u8]) -> Class
         Class::InfWord
     } else if text == b"sup".as_slice() {
         Class::SupWord
+    } else if text == b"rule".as_slice() {
+        Class::RuleWord
+    } else if text == b"at".as_slice() {
+        Class::AtWord
+    } else if text == b"all".as_slice() {
+        Class::AllWord
+    } else if text == b"some".as_slice() {
+        Class::SomeWord
     } else {
         Class::Lower
     }
@@ -129,6 +153,8 @@ fn class_of_punct(text: &[u8]) -> Class
         Class::Dot
     } else if text == b":".as_slice() {
         Class::Colon
+    } else if text == b";".as_slice() {
+        Class::Semicolon
     } else if text == b"/".as_slice() {
         Class::Slash
     } else {
@@ -136,28 +162,72 @@ fn class_of_punct(text: &[u8]) -> Class
     }
 }
 
-fn is_number(text: &[u8]) -> bool
-    ensures { result ≡ list_all is_ascii_digit text.now }
+fn class_of_symbol(text: &[u8]) -> Class
+    ensures { result ≡ class_of_symbol text.now }
 {
-    text.iter().all(|b| b.is_ascii_digit())
+    if text == b"<".as_slice() {
+        Class::Less
+    } else if text == b"^".as_slice() {
+        Class::Caret
+    } else {
+        Class::Symbol
+    }
 }
 
-/// The class of a token, by its kind and its content.
-#[tactic(auto, unfolding(crate::specs::Classes::class_of))]
-pub(crate) fn class_of(bytes: &[u8], token: &Token) -> Class
+fn class_of_number(number: u32, before_caret: bool) -> Class
+    ensures { result ≡ class_of_number number before_caret }
+{
+    match number {
+        0 if before_caret => Class::CaretZero,
+        0 => Class::Zero,
+        _ => Class::Number,
+    }
+}
+
+fn class_of_digits(text: &[u8], before_caret: bool) -> Class
+    ensures { result ≡ class_of_digits text.now before_caret }
+{
+    match number_in(text) {
+        Some(number) => class_of_number(number, before_caret),
+        None if are_digits(text) => Class::Digits,
+        None => Class::Mixed,
+    }
+}
+
+// Whether the token is a Symbol `^`.
+fn is_caret(bytes: &[u8], token: &Token) -> bool
     requires { LiesIn (length bytes.now) token.now }
-    ensures { result ≡ class_of (spelled bytes.now token.now) }
+    ensures { result ≡ is_caret bytes.now token.now }
+{
+    matches!(token.kind, Kind::Symbol) && content(bytes, token) == b"^".as_slice()
+}
+
+// Whether such a token comes first.
+fn begins_with_caret(bytes: &[u8], tokens: &[Token]) -> bool
+    requires { AllIn bytes.now tokens.now }
+    ensures { result ≡ begins_with_caret bytes.now tokens.now }
+{
+    match tokens.split_first() {
+        Some((token, _)) => is_caret(bytes, token),
+        None => false,
+    }
+}
+
+/// The class of a token before others, by its kind, its content and what is behind it.
+#[tactic(auto, unfolding(crate::specs::Classes::class_of))]
+pub(crate) fn class_of(bytes: &[u8], token: &Token, rest: &[Token]) -> Class
+    requires token { LiesIn (length bytes.now) token.now }
+    requires rest { AllIn bytes.now rest.now }
+    ensures { result ≡ class_of (spelled bytes.now token.now rest.now) }
 {
     let text = content(bytes, token);
     match token.kind {
         Kind::Lower => class_of_word(text),
         Kind::Upper => Class::Upper,
-        Kind::Digits if is_number(text) => Class::Number,
-        Kind::Digits => Class::Mixed,
+        Kind::Digits => class_of_digits(text, begins_with_caret(bytes, rest)),
         Kind::Quoted => Class::Quoted,
         Kind::Text => Class::Text,
-        Kind::Symbol if text == b"<".as_slice() => Class::Less,
-        Kind::Symbol => Class::Symbol,
+        Kind::Symbol => class_of_symbol(text),
         Kind::Punct => class_of_punct(text),
     }
 }

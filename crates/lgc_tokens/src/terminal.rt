@@ -2,31 +2,39 @@
 ghost use Rattle.std.specs.Prelude.{◌≡◌, ◌≤◌, ◌<◌, ◌^◌, length, option_map, IfOk, IfSome};
 ghost use Rattle.lgc_grammar.specs.Reading.{one_at, next_is, skip, past};
 ghost use Rattle.lgc_lexer.specs.Spans.{LiesIn, AllIn};
-ghost use Rattle.lgc_parser.specs.Spelled.{spelled, spelled_all, token_word, place, IsRest, IsShorter};
-ghost use Rattle.lgc_parser.specs.Classes.{passes, names, values, order_values, logic_names, begins_statement, is_a};
-ghost use Rattle.lgc_parser.specs.Reads.{word_at};
-ghost use Rattle.lgc_parser.specs.Gives.{Gives};
+ghost use Rattle.lgc_tokens.specs.Spelled.{spelled, spelled_all, place, IsRest, IsShorter};
+ghost use Rattle.lgc_tokens.specs.Classes.{passes, is_a, names, names_or_symbols, values, order_values, logic_names, digits_alone, numbers, arguments, zeros, quantifier_clauses, begins_statement};
+ghost use Rattle.lgc_tokens.specs.Gives.{Gives};
 
 use crate::class::{Class, class_of, is_lower, same};
-use crate::fault::Stop;
-use crate::tree::Word;
-use lgc_lexer::{Kind, Token};
+use crate::stop::Stop;
+use lgc_lexer::Token;
 
 /// What is read, and the tokens behind it.
-pub(crate) type Reading<'a, T> = Result<(T, &'a [Token]), Stop<'a>>;
+pub type Reading<'a, T> = Result<(T, &'a [Token]), Stop<'a>>;
 
 /// What the grammars ask of one token.
 #[derive(Clone, Copy, Debug, PartialEq, Eq)]
-pub(crate) enum Terminal {
+pub enum Terminal {
     Only(Class),
     Name,
+    NameOrSymbol,
     Value,
     /// A value of an order text.
     OrderValue,
     /// The name of a logic.
     LogicName,
+    /// A Digits of digits alone.
+    DigitsAlone,
+    Number,
+    /// A number with which the first literal of a clause begins: a 0 has a Symbol `^` behind it.
+    Argument,
+    /// The number 0.
+    Zero,
     /// The keyword of a bound in an ordering.
     Bound,
+    /// What a clause of a quantifier begins with.
+    QuantifierClause,
     NodeStart,
     BracketedStart,
     RowStart,
@@ -38,18 +46,48 @@ pub(crate) enum Terminal {
 fn names(class: Class) -> bool
     ensures { result ≡ names class }
 {
-    is_lower(class)
-        || same(Class::Quoted, class)
-        || same(Class::Symbol, class)
+    is_lower(class) || same(Class::Quoted, class)
+}
+
+fn names_or_symbols(class: Class) -> bool
+    ensures { result ≡ names_or_symbols class }
+{
+    names(class)
         || same(Class::Less, class)
+        || same(Class::Caret, class)
+        || same(Class::Symbol, class)
+}
+
+fn arguments(class: Class) -> bool
+    ensures { result ≡ arguments class }
+{
+    same(Class::CaretZero, class) || same(Class::Number, class)
+}
+
+fn numbers(class: Class) -> bool
+    ensures { result ≡ numbers class }
+{
+    same(Class::Zero, class) || arguments(class)
+}
+
+fn zeros(class: Class) -> bool
+    ensures { result ≡ zeros class }
+{
+    same(Class::Zero, class) || same(Class::CaretZero, class)
+}
+
+fn digits_alone(class: Class) -> bool
+    ensures { result ≡ digits_alone class }
+{
+    numbers(class) || same(Class::Digits, class)
 }
 
 fn values(class: Class) -> bool
     ensures { result ≡ values class }
 {
-    names(class)
+    names_or_symbols(class)
         || same(Class::Upper, class)
-        || same(Class::Number, class)
+        || digits_alone(class)
         || same(Class::Mixed, class)
 }
 
@@ -66,6 +104,12 @@ fn logic_names(class: Class) -> bool
         || is_lower(class)
         || same(Class::Upper, class)
         || same(Class::Quoted, class)
+}
+
+fn quantifier_clauses(class: Class) -> bool
+    ensures { result ≡ quantifier_clauses class }
+{
+    zeros(class) || same(Class::AllWord, class) || same(Class::SomeWord, class)
 }
 
 fn begins_statement(class: Class) -> bool
@@ -85,10 +129,16 @@ fn passes(terminal: Terminal, class: Class) -> bool
     match terminal {
         Terminal::Only(only) => same(only, class),
         Terminal::Name => names(class),
+        Terminal::NameOrSymbol => names_or_symbols(class),
         Terminal::Value => values(class),
         Terminal::OrderValue => order_values(class),
         Terminal::LogicName => logic_names(class),
+        Terminal::DigitsAlone => digits_alone(class),
+        Terminal::Number => numbers(class),
+        Terminal::Argument => arguments(class),
+        Terminal::Zero => zeros(class),
         Terminal::Bound => same(Class::InfWord, class) || same(Class::SupWord, class),
+        Terminal::QuantifierClause => quantifier_clauses(class),
         Terminal::NodeStart => order_values(class) || same(Class::OpenBrace, class),
         Terminal::BracketedStart => same(Class::OpenBrace, class) || same(Class::OpenSquare, class),
         Terminal::RowStart => same(Class::OpenRound, class) || values(class),
@@ -97,64 +147,65 @@ fn passes(terminal: Terminal, class: Class) -> bool
     }
 }
 
-/// Whether the token is one of the terminal.
-pub(crate) fn is_a(bytes: &[u8], terminal: Terminal, token: &Token) -> bool
-    requires { LiesIn (length bytes.now) token.now }
-    ensures { result ≡ is_a terminal (spelled bytes.now token.now) }
+/// Whether a token before others is one of the terminal.
+pub fn is_a(bytes: &[u8], terminal: Terminal, token: &Token, rest: &[Token]) -> bool
+    requires token { LiesIn (length bytes.now) token.now }
+    requires rest { AllIn bytes.now rest.now }
+    ensures { result ≡ is_a terminal (spelled bytes.now token.now rest.now) }
 {
-    passes(terminal, class_of(bytes, token))
+    passes(terminal, class_of(bytes, token, rest))
 }
 
 /// The next token, which has to be of the terminal, and those behind it.
-pub(crate) fn one<'a>(bytes: &[u8], terminal: Terminal, tokens: &'a [Token]) -> Reading<'a, Token>
+pub fn one<'a>(bytes: &[u8], terminal: Terminal, tokens: &'a [Token]) -> Reading<'a, Token>
     requires { AllIn bytes.now tokens.now }
-    ensures gives { Gives bytes.now (λ x. (spelled bytes.now x.0, spelled_all bytes.now x.1.now)) result (one_at (is_a terminal) (spelled_all bytes.now tokens.now)) }
+    ensures gives { Gives bytes.now (λ x. (spelled bytes.now x.0 x.1.now, spelled_all bytes.now x.1.now)) result (one_at (is_a terminal) (spelled_all bytes.now tokens.now)) }
     ensures token { IfOk result (λ x. LiesIn (length bytes.now) x.0) }
     ensures rest { IfOk result (λ x. IsShorter bytes.now tokens.now x.1.now) }
 {
     match tokens.split_first() {
-        Some((token, rest)) if is_a(bytes, terminal, token) => Ok((*token, rest)),
+        Some((token, rest)) if is_a(bytes, terminal, token, rest) => Ok((*token, rest)),
         _ => Err(Stop::Unexpected(tokens)),
     }
 }
 
 /// Whether a token is next, and it is of the terminal.
-pub(crate) fn next_is(bytes: &[u8], terminal: Terminal, tokens: &[Token]) -> bool
+pub fn next_is(bytes: &[u8], terminal: Terminal, tokens: &[Token]) -> bool
     requires { AllIn bytes.now tokens.now }
     ensures { result ≡ next_is (is_a terminal) (spelled_all bytes.now tokens.now) }
 {
     match tokens.split_first() {
-        Some((token, _)) => is_a(bytes, terminal, token),
+        Some((token, rest)) => is_a(bytes, terminal, token, rest),
         None => false,
     }
 }
 
 /// The tokens behind the next one, where that is of the terminal.
-pub(crate) fn skip<'a>(bytes: &[u8], terminal: Terminal, tokens: &'a [Token]) -> Option<&'a [Token]>
+pub fn skip<'a>(bytes: &[u8], terminal: Terminal, tokens: &'a [Token]) -> Option<&'a [Token]>
     requires { AllIn bytes.now tokens.now }
     ensures skips { option_map (λ r. spelled_all bytes.now r.now) result ≡ skip (is_a terminal) (spelled_all bytes.now tokens.now) }
     ensures rest { IfSome result (λ r. IsShorter bytes.now tokens.now r.now) }
 {
     match tokens.split_first() {
-        Some((token, rest)) if is_a(bytes, terminal, token) => Some(rest),
+        Some((token, rest)) if is_a(bytes, terminal, token, rest) => Some(rest),
         _ => None,
     }
 }
 
 /// The tokens without a next one of the terminal.
-pub(crate) fn past<'a>(bytes: &[u8], terminal: Terminal, tokens: &'a [Token]) -> &'a [Token]
+pub fn past<'a>(bytes: &[u8], terminal: Terminal, tokens: &'a [Token]) -> &'a [Token]
     requires { AllIn bytes.now tokens.now }
     ensures gives { spelled_all bytes.now result.now ≡ past (is_a terminal) (spelled_all bytes.now tokens.now) }
     ensures rest { IsRest bytes.now tokens.now result.now }
 {
     match tokens.split_first() {
-        Some((token, rest)) if is_a(bytes, terminal, token) => rest,
+        Some((token, rest)) if is_a(bytes, terminal, token, rest) => rest,
         _ => tokens,
     }
 }
 
 /// The offset of the first token, or of the end.
-pub(crate) fn place(bytes: &[u8], tokens: &[Token]) -> u32
+pub fn place(bytes: &[u8], tokens: &[Token]) -> u32
     requires { length bytes.now < 2 ^ 32 }
     ensures { result ≡ place (length bytes.now) (spelled_all bytes.now tokens.now) }
 {
@@ -162,30 +213,4 @@ pub(crate) fn place(bytes: &[u8], tokens: &[Token]) -> u32
         Some(token) => token.start,
         None => bytes.len() as u32,
     }
-}
-
-fn word_of(token: &Token) -> Word
-    requires { LiesIn token.now.end token.now }
-    ensures { result ≡ token_word token.now }
-{
-    let quotes = match token.kind {
-        Kind::Quoted | Kind::Text => 1,
-        _ => 0,
-    };
-    Word {
-        start: token.start + quotes,
-        end: token.end - quotes,
-        at: token.start,
-    }
-}
-
-/// The word of the next token, which has to be of the terminal.
-#[tactic(auto, unfolding(crate::specs::Reads::word_at))]
-pub(crate) fn word<'a>(bytes: &[u8], terminal: Terminal, tokens: &'a [Token]) -> Reading<'a, Word>
-    requires { AllIn bytes.now tokens.now }
-    ensures gives { Gives bytes.now (λ x. (x.0, spelled_all bytes.now x.1.now)) result (word_at (is_a terminal) (spelled_all bytes.now tokens.now)) }
-    ensures rest { IfOk result (λ x. IsShorter bytes.now tokens.now x.1.now) }
-{
-    let (token, rest) = one(bytes, terminal, tokens)?;
-    Ok((word_of(&token), rest))
 }

@@ -1,0 +1,6 @@
+pub mod NumberLaws
+pub mod Tables
+pub mod Stops
+pub mod LowerWords
+pub mod NumberTokens
+pub mod Places
