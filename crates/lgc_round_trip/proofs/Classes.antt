@@ -1,132 +1,129 @@
--- The classes of printed words: each passes the test that the grammar asks of it. The classes themselves aren't exported, so a
--- test of one class is that of its place among all.
+-- The classes of printed words: each passes the test that the grammar asks of it.
 use Rattle.std.proofs.Common.{◌≡◌, ℕ, ◌^◌, ◌<◌, ◌≤◌, Bool, true, false, cond, List, [], ◌∷◌, Option, Some, None, refl, ap, ◌∙◌, arith}
 use Rattle.std.specs.Prelude.{codes, ◌&&◌, ◌||◌, ◌==◌, nat_lt}
-use Rattle.std.specs.Char.{is_ascii_lowercase, is_ascii_uppercase}
+use Rattle.std.specs.Char.{is_ascii_digit, is_ascii_lowercase, is_ascii_uppercase}
 use Rattle.std.specs.List.{list_all}
+use Rattle.std.specs.Fmt.{decimal}
 use Rattle.std.proofs.lemmas.Bool.Decides.{nat_tests}
 use Rattle.lgc_lexer.specs.declared.token.Kind.TheVariants as kind
 use Rattle.lgc_print.specs.Text.{is_word_byte, is_lower_word}
-use Rattle.lgc_rules.specs.Spelled.{Spelled}
-use Rattle.lgc_rules.specs.Numbers.{number_of, number_in}
+use Rattle.lgc_tokens.specs.declared.class.Class.{Class}
+use Rattle.lgc_tokens.specs.declared.class.Class.TheVariants.{RuleWord, AtWord, OperatorWord, QuantifierWord, AllWord, SomeWord, Zero, Digits, Mixed, Caret, OpenBrace, CloseBrace, OpenSquare, CloseSquare, Comma, Dot, Colon, Semicolon, Slash}
+use Rattle.lgc_tokens.specs.Spelled.{Spelled}
+use Rattle.lgc_tokens.specs.Numbers.{number_of, number_in}
 use Rattle.lgc_rules.specs.Names.{number, is_outside}
-use Rattle.lgc_rules.specs.Classes.{place, class_in, class_of, class_of_word, class_of_punct, class_of_digits, names, arguments, numbers, zeros, values, is_name, is_number, is_argument, is_zero, is_value}
+use Rattle.lgc_tokens.specs.Classes.{same, is, class_in, class_of, class_of_word, class_of_number, class_of_numeral, class_of_digits, class_of_punct, names, arguments, numbers, zeros, values, is_name, is_number, is_argument, is_zero, is_value}
+use Rattle.lgc_tokens.proofs.LowerWords.{word_is_lower}
 use Rattle.lgc_round_trip.proofs.Lexing.{Word, word_of}
 use Rattle.lgc_round_trip.proofs.Pieces.{kind_of, plain, in_quotes, sign, caret}
 use Rattle.lgc_round_trip.proofs.Decimals.{writes_decimal, number_in_decimal}
 use Rattle.lgc_round_trip.proofs.Printing.{value_word, symbol_word, numeral}
 use Rattle.lgc_round_trip.proofs.Texts.{zero_word}
 
--- the place of the class of a word
-abbrev pub place_of : Word → ℕ
-place_of w = place (class_in w.kind w.text w.before_caret)
-
-place_seen : (t : Spelled) (w : Word) → word_of t ≡ w → place (class_of t) ≡ place_of w
-unfolding class_of
-place_seen t w e = ap place_of e
-
 -- ---- single classes
 
--- the class of the token has this place
-abbrev pub is_at_place : ℕ → Spelled → Bool
-is_at_place n t = n == place (class_of t)
-
 -- a token of a word of this class
-at_place : (n : ℕ) (w : Word) → (n == place_of w) ≡ true → (t : Spelled) → word_of t ≡ w → (n == place (class_of t)) ≡ true
-at_place n w h t e = ap (λ m. n == m) (place_seen t w e) ∙ h
+of_class : (c : Class) (w : Word) → same c (class_in w.kind w.text w.before_caret) ≡ true → (t : Spelled) → word_of t ≡ w → is c t ≡ true
+unfolding class_of
+of_class c w h t e = ap (λ (v : Word). same c (class_in v.kind v.text v.before_caret)) e ∙ h
 
-pub is_rule : (t : Spelled) → word_of t ≡ plain (codes "rule") false → (0 == place (class_of t)) ≡ true
+pub is_rule : (t : Spelled) → word_of t ≡ plain (codes "rule") false → is RuleWord t ≡ true
 unfolding class_of_word
-is_rule t e = at_place 0 (plain (codes "rule") false) refl t e
+is_rule t e = of_class RuleWord (plain (codes "rule") false) refl t e
 
-pub is_at : (t : Spelled) → word_of t ≡ plain (codes "at") false → (1 == place (class_of t)) ≡ true
+pub is_at : (t : Spelled) → word_of t ≡ plain (codes "at") false → is AtWord t ≡ true
 unfolding class_of_word
-is_at t e = at_place 1 (plain (codes "at") false) refl t e
+is_at t e = of_class AtWord (plain (codes "at") false) refl t e
 
-pub is_operator : (t : Spelled) → word_of t ≡ plain (codes "operator") false → (2 == place (class_of t)) ≡ true
+pub is_operator : (t : Spelled) → word_of t ≡ plain (codes "operator") false → is OperatorWord t ≡ true
 unfolding class_of_word
-is_operator t e = at_place 2 (plain (codes "operator") false) refl t e
+is_operator t e = of_class OperatorWord (plain (codes "operator") false) refl t e
 
-pub is_quantifier : (t : Spelled) → word_of t ≡ plain (codes "quantifier") false → (3 == place (class_of t)) ≡ true
+pub is_quantifier : (t : Spelled) → word_of t ≡ plain (codes "quantifier") false → is QuantifierWord t ≡ true
 unfolding class_of_word
-is_quantifier t e = at_place 3 (plain (codes "quantifier") false) refl t e
+is_quantifier t e = of_class QuantifierWord (plain (codes "quantifier") false) refl t e
 
-pub is_all : (t : Spelled) → word_of t ≡ plain (codes "all") false → (4 == place (class_of t)) ≡ true
+pub is_all : (t : Spelled) → word_of t ≡ plain (codes "all") false → is AllWord t ≡ true
 unfolding class_of_word
-is_all t e = at_place 4 (plain (codes "all") false) refl t e
+is_all t e = of_class AllWord (plain (codes "all") false) refl t e
 
-pub is_some : (t : Spelled) → word_of t ≡ plain (codes "some") false → (5 == place (class_of t)) ≡ true
+pub is_some : (t : Spelled) → word_of t ≡ plain (codes "some") false → is SomeWord t ≡ true
 unfolding class_of_word
-is_some t e = at_place 5 (plain (codes "some") false) refl t e
+is_some t e = of_class SomeWord (plain (codes "some") false) refl t e
 
-pub is_caret : (t : Spelled) → word_of t ≡ caret → (14 == place (class_of t)) ≡ true
-is_caret t e = at_place 14 caret refl t e
+pub is_caret : (t : Spelled) → word_of t ≡ caret → is Caret t ≡ true
+is_caret t e = of_class Caret caret refl t e
 
-pub is_open_brace : (t : Spelled) → word_of t ≡ sign 123 → (16 == place (class_of t)) ≡ true
+pub is_open_brace : (t : Spelled) → word_of t ≡ sign 123 → is OpenBrace t ≡ true
 unfolding class_of_punct
-is_open_brace t e = at_place 16 (sign 123) refl t e
+is_open_brace t e = of_class OpenBrace (sign 123) refl t e
 
-pub is_close_brace : (t : Spelled) → word_of t ≡ sign 125 → (17 == place (class_of t)) ≡ true
+pub is_close_brace : (t : Spelled) → word_of t ≡ sign 125 → is CloseBrace t ≡ true
 unfolding class_of_punct
-is_close_brace t e = at_place 17 (sign 125) refl t e
+is_close_brace t e = of_class CloseBrace (sign 125) refl t e
 
-pub is_open_square : (t : Spelled) → word_of t ≡ sign 91 → (18 == place (class_of t)) ≡ true
+pub is_open_square : (t : Spelled) → word_of t ≡ sign 91 → is OpenSquare t ≡ true
 unfolding class_of_punct
-is_open_square t e = at_place 18 (sign 91) refl t e
+is_open_square t e = of_class OpenSquare (sign 91) refl t e
 
-pub is_close_square : (t : Spelled) → word_of t ≡ sign 93 → (19 == place (class_of t)) ≡ true
+pub is_close_square : (t : Spelled) → word_of t ≡ sign 93 → is CloseSquare t ≡ true
 unfolding class_of_punct
-is_close_square t e = at_place 19 (sign 93) refl t e
+is_close_square t e = of_class CloseSquare (sign 93) refl t e
 
-pub is_comma : (t : Spelled) → word_of t ≡ sign 44 → (20 == place (class_of t)) ≡ true
+pub is_comma : (t : Spelled) → word_of t ≡ sign 44 → is Comma t ≡ true
 unfolding class_of_punct
-is_comma t e = at_place 20 (sign 44) refl t e
+is_comma t e = of_class Comma (sign 44) refl t e
 
-pub is_dot : (t : Spelled) → word_of t ≡ sign 46 → (21 == place (class_of t)) ≡ true
+pub is_dot : (t : Spelled) → word_of t ≡ sign 46 → is Dot t ≡ true
 unfolding class_of_punct
-is_dot t e = at_place 21 (sign 46) refl t e
+is_dot t e = of_class Dot (sign 46) refl t e
 
-pub is_colon : (t : Spelled) → word_of t ≡ sign 58 → (22 == place (class_of t)) ≡ true
+pub is_colon : (t : Spelled) → word_of t ≡ sign 58 → is Colon t ≡ true
 unfolding class_of_punct
-is_colon t e = at_place 22 (sign 58) refl t e
+is_colon t e = of_class Colon (sign 58) refl t e
 
-pub is_semicolon : (t : Spelled) → word_of t ≡ sign 59 → (23 == place (class_of t)) ≡ true
+pub is_semicolon : (t : Spelled) → word_of t ≡ sign 59 → is Semicolon t ≡ true
 unfolding class_of_punct
-is_semicolon t e = at_place 23 (sign 59) refl t e
+is_semicolon t e = of_class Semicolon (sign 59) refl t e
 
-pub is_slash : (t : Spelled) → word_of t ≡ sign 47 → (24 == place (class_of t)) ≡ true
+pub is_slash : (t : Spelled) → word_of t ≡ sign 47 → is Slash t ≡ true
 unfolding class_of_punct
-is_slash t e = at_place 24 (sign 47) refl t e
+is_slash t e = of_class Slash (sign 47) refl t e
 
-pub is_no_literal : (t : Spelled) → word_of t ≡ zero_word → (8 == place (class_of t)) ≡ true
+pub is_no_literal : (t : Spelled) → word_of t ≡ zero_word → is Zero t ≡ true
 unfolding number_in
-is_no_literal t e = at_place 8 zero_word refl t e
+is_no_literal t e = of_class Zero zero_word refl t e
 
 -- ---- names
 
 words_are_values : (text : List ℕ) → values (class_of_word text) ≡ true
-unfolding class_of_word
-words_are_values text = grind arith
+words_are_values text = rw (word_is_lower text) refl
 
 words_are_names : (text : List ℕ) → names (class_of_word text) ≡ true
-unfolding class_of_word
-words_are_names text = grind arith
+words_are_names text = rw (word_is_lower text) refl
 
-number_passes_values : (n : ℕ) (flag : Bool) → values (class_of_digits (Some n) flag) ≡ true
+number_passes_values : (n : ℕ) (flag : Bool) → values (class_of_number n flag) ≡ true
 number_passes_values n flag = grind arith
 
-digits_are_values : (found : Option ℕ) (flag : Bool) → values (class_of_digits found flag) ≡ true
-digits_are_values None flag = refl
-digits_are_values (Some n) flag = number_passes_values n flag
+numeral_passes_values : (found : Option ℕ) (text : List ℕ) (flag : Bool) → values (class_of_numeral found text flag) ≡ true
+numeral_passes_values None text flag = by (list_all is_ascii_digit text)
+  where
+    by : (b : Bool) → values (cond b Digits Mixed) ≡ true
+    by true = refl
+    by false = refl
+numeral_passes_values (Some n) text flag = number_passes_values n flag
+
+digits_are_values : (text : List ℕ) (flag : Bool) → values (class_of_digits text flag) ≡ true
+digits_are_values text flag = numeral_passes_values (number_in text) text flag
 
 -- a word that begins as a word does is the name of a value
 word_is_value : (l u : Bool) (text : List ℕ) → values (class_in (cond l kind.Lower (cond u kind.Upper kind.Digits)) text false) ≡ true
 word_is_value true u text = words_are_values text
 word_is_value false true text = refl
-word_is_value false false text = digits_are_values (number_in text) false
+word_is_value false false text = digits_are_values text false
 
 plain_is_value : (name : List ℕ) → values (class_in (kind_of name) name false) ≡ true
-plain_is_value [] = digits_are_values (number_in []) false
+plain_is_value [] = digits_are_values [] false
 plain_is_value (b ∷ name) = word_is_value (is_ascii_lowercase b) (is_ascii_uppercase b || b == 95) (b ∷ name)
 
 value_class : (name : List ℕ) (b : Bool) → values (class_in (cond b (plain name false) (in_quotes name)).kind (cond b (plain name false) (in_quotes name)).text (cond b (plain name false) (in_quotes name)).before_caret) ≡ true
@@ -175,24 +172,24 @@ numbers_seen : (t : Spelled) (w : Word) → word_of t ≡ w → is_number t ≡ 
 unfolding class_of
 numbers_seen t w e = ap (λ (v : Word). numbers (class_in v.kind v.text v.before_caret)) e
 
-number_passes_numbers : (n : ℕ) (flag : Bool) → numbers (class_of_digits (Some n) flag) ≡ true
+number_passes_numbers : (n : ℕ) (flag : Bool) → numbers (class_of_number n flag) ≡ true
 number_passes_numbers n flag = grind arith
 
 pub numeral_passes : (n : ℕ) (flag : Bool) → n < 2 ^ 32 → (t : Spelled) → word_of t ≡ numeral n flag → is_number t ≡ true
 numeral_passes n flag lt t e =
-    numbers_seen t (numeral n flag) e ∙ ap (λ (found : Option ℕ). numbers (class_of_digits found flag)) (number_in_decimal n lt) ∙ number_passes_numbers n flag
+    numbers_seen t (numeral n flag) e ∙ ap (λ (found : Option ℕ). numbers (class_of_numeral found (decimal n) flag)) (number_in_decimal n lt) ∙ number_passes_numbers n flag
 
 arguments_seen : (t : Spelled) (w : Word) → word_of t ≡ w → is_argument t ≡ arguments (class_in w.kind w.text w.before_caret)
 unfolding class_of
 arguments_seen t w e = ap (λ (v : Word). arguments (class_in v.kind v.text v.before_caret)) e
 
-number_passes_arguments : (n : ℕ) → arguments (class_of_digits (Some n) true) ≡ true
+number_passes_arguments : (n : ℕ) → arguments (class_of_number n true) ≡ true
 number_passes_arguments n = grind arith
 
 -- the number before a caret isn't the clause 0
 pub argument_passes : (n : ℕ) → n < 2 ^ 32 → (t : Spelled) → word_of t ≡ numeral n true → is_argument t ≡ true
 argument_passes n lt t e =
-    arguments_seen t (numeral n true) e ∙ ap (λ (found : Option ℕ). arguments (class_of_digits found true)) (number_in_decimal n lt) ∙ number_passes_arguments n
+    arguments_seen t (numeral n true) e ∙ ap (λ (found : Option ℕ). arguments (class_of_numeral found (decimal n) true)) (number_in_decimal n lt) ∙ number_passes_arguments n
 
 -- the 0 that is a quantifier's clause
 pub zero_passes : (t : Spelled) → word_of t ≡ zero_word → is_zero t ≡ true

@@ -8,8 +8,10 @@ use Rattle.lgc_print.specs.Text.{joined}
 use Rattle.lgc_grammar.specs.Grammar.{One, Grammar, Nothing, Then, Mapped, Either, Optional, Growing}
 use Rattle.lgc_values.specs.Logic.{Logic, IsLogic}
 use Rattle.lgc_syntax.specs.declared.fault.TheConstants.{BAD_ARGUMENT}
-use Rattle.lgc_rules.specs.Spelled.{Spelled}
-use Rattle.lgc_rules.specs.Classes.{is_number, is_argument}
+use Rattle.lgc_tokens.specs.declared.class.Class.{Class}
+use Rattle.lgc_tokens.specs.declared.class.Class.TheVariants.{AllWord, Caret, SomeWord}
+use Rattle.lgc_tokens.specs.Spelled.{Spelled}
+use Rattle.lgc_tokens.specs.Classes.{is as is_of, is_number, is_argument}
 use Rattle.lgc_rules.specs.Names.{number, is_outside, padded}
 use Rattle.lgc_rules.specs.RuleGrammar.{NumberFrom, Set, Literal, NextLiteral, Literals, EmptyClause, Clause, NextAll, LastSome, MoreSets, AllSets, SomeAlone, NoSets, QuantifierClause, NextClause, Clauses}
 use Rattle.lgc_round_trip.specs.RoundTrip.{IsSet}
@@ -18,7 +20,7 @@ use Rattle.lgc_round_trip.proofs.Pieces.{sign, caret}
 use Rattle.lgc_round_trip.proofs.Deriving.{Derives, derive_then, derive_skip, derive_nothing, derive_mapped, derive_one, derive_allowed, derive_left, derive_other, derive_ended, derive_grown, derive_words, derive_tree}
 use Rattle.lgc_round_trip.proofs.Printing.{numeral}
 use Rattle.lgc_round_trip.proofs.Texts.{set_words, literal_words, literal_words_from, literals_words, operator_clause_words, all_words, some_words, quantifier_clause_words, zero_word}
-use Rattle.lgc_round_trip.proofs.Classes.{is_at_place, is_caret, is_comma, is_semicolon, is_all, is_some, is_no_literal, argument_passes, zero_passes, numeral_passes, numeral_says, numeral_within}
+use Rattle.lgc_round_trip.proofs.Classes.{is_caret, is_comma, is_semicolon, is_all, is_some, is_no_literal, argument_passes, zero_passes, numeral_passes, numeral_says, numeral_within}
 use Rattle.lgc_round_trip.proofs.SetPhrases.{set_derives}
 
 -- ---- sets that aren't written
@@ -50,7 +52,7 @@ module _ (n : ℕ) (logic : Logic) (is : IsLogic logic) (size : length logic.nam
       let before : k - 1 ≡ length front = omega arith in
       let tree : padded (k - 1) done ++ set ∷ [] ≡ front ++ set ∷ [] = ap (λ m. padded m done ++ set ∷ []) before ∙ ap (λ f. f ++ set ∷ []) (sym so_far) in
       derive_tree (Literal n logic arity test done) (padded (k - 1) done ++ set ∷ []) (front ++ set ∷ []) (literal_words logic.names k set) tree
-      (derive_then (NumberFrom (length done + 1) arity BAD_ARGUMENT test) (λ argument. Then (One (is_at_place 14)) (λ _. Then (Set n logic) (λ x. Nothing (padded (argument - 1) done ++ x ∷ [])))) k (padded (k - 1) done ++ set ∷ []) (numeral k true ∷ []) (caret ∷ set_words logic.names set) (number_derives (length done + 1) arity BAD_ARGUMENT k true test (omega arith) (omega arith) most passes)
+      (derive_then (NumberFrom (length done + 1) arity BAD_ARGUMENT test) (λ argument. Then (One (is_of Caret)) (λ _. Then (Set n logic) (λ x. Nothing (padded (argument - 1) done ++ x ∷ [])))) k (padded (k - 1) done ++ set ∷ []) (numeral k true ∷ []) (caret ∷ set_words logic.names set) (number_derives (length done + 1) arity BAD_ARGUMENT k true test (omega arith) (omega arith) most passes)
       (derive_skip _ _ (padded (k - 1) done ++ set ∷ []) caret (set_words logic.names set) is_caret
       (derive_tail_of set (padded (k - 1) done ++ set ∷ []) (set_derives n logic is size set some set-is))))
     where
@@ -119,14 +121,14 @@ abbrev behind_commas : List (List Word) → List Word
 behind_commas ws = flat_map (λ w. (sign 44 ∷ []) ++ w) ws
 
 module _ (n : ℕ) (logic : Logic) (is : IsLogic logic) (size : length logic.names ≡ n) where
-  -- a set behind the word at this place
-  abbrev set_behind : ℕ → Grammar Spelled (List ℕ)
-  set_behind word = Then (One (is_at_place word)) (λ _. Set n logic)
+  -- a set behind this word
+  abbrev set_behind : Class → Grammar Spelled (List ℕ)
+  set_behind word = Then (One (is_of word)) (λ _. Set n logic)
 
   next_all_derives : (done : List (List ℕ)) (set : List ℕ) → set ≢ [] → IsSet n set → Derives (NextAll n logic done) (done ++ set ∷ []) (sign 44 ∷ all_words logic.names set)
   next_all_derives done set some set-is =
       derive_skip _ _ (done ++ set ∷ []) (sign 44) (all_words logic.names set) is_comma
-      (derive_mapped (λ x. done ++ x ∷ []) (set_behind 4) set (all_words logic.names set)
+      (derive_mapped (λ x. done ++ x ∷ []) (set_behind AllWord) set (all_words logic.names set)
       (derive_skip _ _ set _ (set_words logic.names set) is_all (set_derives n logic is size set some set-is)))
 
   more_all : (done rest : List (List ℕ)) → AllByRecursion (λ set. set ≢ []) rest → AllByRecursion (IsSet n) rest → Derives (Growing (NextAll n logic) done) (done ++ rest) (behind_commas (map (all_words logic.names) rest))
@@ -143,7 +145,7 @@ module _ (n : ℕ) (logic : Logic) (is : IsLogic logic) (size : length logic.nam
       derive_left (LastSome n logic all) (Nothing ([] ∷ all)) ((v ∷ set) ∷ all) (behind_commas (some_words logic.names (v ∷ set)))
       (derive_words (LastSome n logic all) ((v ∷ set) ∷ all) _ _ (sym (append-nil _))
       (derive_skip _ _ ((v ∷ set) ∷ all) (sign 44) _ is_comma
-      (derive_mapped (λ x. x ∷ all) (set_behind 5) (v ∷ set) _
+      (derive_mapped (λ x. x ∷ all) (set_behind SomeWord) (v ∷ set) _
       (derive_skip _ _ (v ∷ set) _ (set_words logic.names (v ∷ set)) is_some (set_derives n logic is size (v ∷ set) (λ e. absurd cc) set-is)))))
 
   more_sets : (done rest : List (List ℕ)) (some : List ℕ) → AllByRecursion (λ set. set ≢ []) rest → AllByRecursion (IsSet n) rest → IsSet n some → Derives (MoreSets n logic done) (some ∷ (done ++ rest)) (behind_commas (map (all_words logic.names) rest ++ some_words logic.names some))
@@ -159,12 +161,12 @@ module _ (n : ℕ) (logic : Logic) (is : IsLogic logic) (size : length logic.nam
       derive_other NoSets (Either (AllSets n logic) (SomeAlone n logic)) ((v ∷ set) ∷ []) _
       (derive_other (AllSets n logic) (SomeAlone n logic) ((v ∷ set) ∷ []) _
       (derive_words (SomeAlone n logic) ((v ∷ set) ∷ []) _ _ (sym (append-nil _))
-      (derive_mapped (λ x. x ∷ []) (set_behind 5) (v ∷ set) _
+      (derive_mapped (λ x. x ∷ []) (set_behind SomeWord) (v ∷ set) _
       (derive_skip _ _ (v ∷ set) _ (set_words logic.names (v ∷ set)) is_some (set_derives n logic is size (v ∷ set) (λ e. absurd cc) are.0)))))
   quantifier_clause_derives some (set ∷ all) members are =
       derive_other NoSets (Either (AllSets n logic) (SomeAlone n logic)) (some ∷ set ∷ all) _
       (derive_left (AllSets n logic) (SomeAlone n logic) (some ∷ set ∷ all) _
-      (derive_then (set_behind 4) (λ x. MoreSets n logic (x ∷ [])) set (some ∷ set ∷ all) (all_words logic.names set) (behind_commas (map (all_words logic.names) all ++ some_words logic.names some))
+      (derive_then (set_behind AllWord) (λ x. MoreSets n logic (x ∷ [])) set (some ∷ set ∷ all) (all_words logic.names set) (behind_commas (map (all_words logic.names) all ++ some_words logic.names some))
       (derive_skip _ _ set _ (set_words logic.names set) is_all (set_derives n logic is size set members.0 (are.1).0))
       (more_sets (set ∷ []) all some members.1 (are.1).1 are.0)))
 

@@ -11,7 +11,7 @@ use Rattle.std.proofs.lemmas.List.Folds.{list_all-append}
 use Rattle.std.proofs.lemmas.Fmt.{decimal_by_steps, decimal_digit, first_decimal}
 use Rattle.lgc_lexer.specs.declared.token.Kind.TheVariants.{Digits}
 use Rattle.lgc_print.specs.Text.{is_word_byte}
-use Rattle.lgc_rules.specs.Numbers.{number_of, number_in, has_leading_zero}
+use Rattle.lgc_tokens.specs.Numbers.{number_of, number_in, has_leading_zero}
 use Rattle.lgc_round_trip.proofs.Pieces.{kind_of}
 
 -- digits that write a number

@@ -2,7 +2,7 @@
 use Rattle.std.proofs.Common.{◌≡◌, ℕ, Bool, true, false, List, [], ◌∷◌, ◌++◌, Ok, refl, sym, ap, subst, inl, inr}
 use Rattle.std.specs.Prelude.{map}
 use Rattle.lgc_grammar.specs.Grammar.{Grammar, One, Allowed, fault_if, Nothing, Mapped, Then, Either, Growing, ended, grown}
-use Rattle.lgc_rules.specs.Spelled.{Spelled}
+use Rattle.lgc_tokens.specs.Spelled.{Spelled}
 use Rattle.lgc_round_trip.proofs.Lexing.{Word, word_of}
 
 -- tokens of these words are a phrase, and a is its tree

@@ -8,7 +8,7 @@ use Rattle.lgc_lexer.specs.declared.token.Token.{Token}
 use Rattle.lgc_lexer.specs.declared.fault.LexFault.{LexFault}
 use Rattle.lgc_lexer.specs.Tokens.{piece_of, tokens_from, tokens_after, then_token}
 use Rattle.lgc_lexer.specs.Spans.{quote_len}
-use Rattle.lgc_rules.specs.Spelled.{Spelled, spelled_all, is_symbol, begins_with_caret}
+use Rattle.lgc_tokens.specs.Spelled.{Spelled, spelled_all, is_symbol, begins_with_caret}
 
 -- what the grammar of rules sees of a token
 pub record Word : Type 0 where

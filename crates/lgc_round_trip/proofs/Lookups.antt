@@ -11,7 +11,7 @@ use Rattle.std.proofs.lemmas.Option.{slice_get-get_or}
 use Rattle.lgc_values.specs.declared.matrix.Operator.{Operator}
 use Rattle.lgc_values.specs.declared.matrix.Quantifier.{Quantifier}
 use Rattle.lgc_values.specs.Logic.{Logic, IsLogic, operator_at, quantifier_at, value_named, operator_named, quantifier_named}
-use Rattle.lgc_rules.specs.Spelled.{Spelled}
+use Rattle.lgc_tokens.specs.Spelled.{Spelled}
 use Rattle.lgc_rules.specs.Names.{value_of, operator_of, quantifier_of, names_no_value, names_no_operator, names_no_quantifier}
 
 differ : (xs ys : List ℕ) → xs ≢ ys → bytes_eq xs ys ≡ false

@@ -8,7 +8,7 @@ use Rattle.std.proofs.lemmas.Bool.{ne_eqb}
 use Rattle.lgc_lexer.specs.declared.token.Kind.{Kind}
 use Rattle.lgc_lexer.specs.declared.token.Kind.TheVariants.{Lower, Upper, Digits}
 use Rattle.lgc_lexer.specs.Forms.{is_word, is_symbol}
-use Rattle.lgc_rules.specs.Spelled.{is_symbol as is_symbol_kind}
+use Rattle.lgc_tokens.specs.Spelled.{is_symbol as is_symbol_kind}
 use Rattle.lgc_values.specs.Logic.{IsPlainName}
 use Rattle.lgc_print.specs.Text.{joined, is_word_byte, is_lower_word, quoted, value_text, symbol_text}
 use Rattle.lgc_round_trip.proofs.Lexing.{Word, begins_with, Lexes}

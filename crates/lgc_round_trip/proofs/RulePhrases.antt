@@ -15,8 +15,9 @@ use Rattle.lgc_clauses.specs.declared.rule.Rule.TheVariants as rule
 use Rattle.lgc_clauses.specs.Kinds.{plain_rule}
 use Rattle.lgc_print.specs.Text.{joined, calculus_text}
 use Rattle.lgc_syntax.specs.declared.fault.TheConstants.{UNKNOWN_NAME, WRONG_ARITY, MISNUMBERED}
-use Rattle.lgc_rules.specs.Spelled.{Spelled, spelled_all}
-use Rattle.lgc_rules.specs.Classes.{is_name, is_number}
+use Rattle.lgc_tokens.specs.declared.class.Class.TheVariants.{CloseSquare, Colon, Dot, OpenSquare, Slash}
+use Rattle.lgc_tokens.specs.Spelled.{Spelled, spelled_all}
+use Rattle.lgc_tokens.specs.Classes.{is as is_of, is_name, is_number}
 use Rattle.lgc_rules.specs.Names.{operator_of, quantifier_of, names_no_operator, names_no_quantifier}
 use Rattle.lgc_rules.specs.RuleGrammar.{NumberFrom, Set, Clause, QuantifierClause, Clauses, OperatorHead, QuantifierHead, Body, OfOperator, OfQuantifier, OneRule, NextRule, operator_rule, quantifier_rule}
 use Rattle.lgc_rules.specs.RuleFile.{IsFileOf}
@@ -26,7 +27,7 @@ use Rattle.lgc_round_trip.proofs.Pieces.{plain, sign}
 use Rattle.lgc_round_trip.proofs.Deriving.{Derives, derive_then, derive_skip, derive_nothing, derive_mapped, derive_allowed, derive_left, derive_other, derive_ended, derive_grown, derive_words, derive_tree}
 use Rattle.lgc_round_trip.proofs.Printing.{numeral, symbol_word}
 use Rattle.lgc_round_trip.proofs.Texts.{AreBelow, AreSetsBelow, IsHeadPrintable, IsClausePrintable, IsPrintable, ArePrintable, set_words, operator_clause_words, quantifier_clause_words, head_words, body_words, rule_words, rules_words, calculus_lexes}
-use Rattle.lgc_round_trip.proofs.Classes.{is_at_place, is_rule, is_at, is_operator, is_quantifier, is_open_square, is_close_square, is_dot, is_colon, is_slash, numeral_passes, symbol_passes, symbol_says}
+use Rattle.lgc_round_trip.proofs.Classes.{is_rule, is_at, is_operator, is_quantifier, is_open_square, is_close_square, is_dot, is_colon, is_slash, numeral_passes, symbol_passes, symbol_says}
 use Rattle.lgc_round_trip.proofs.Lookups.{operator_told, quantifier_told}
 use Rattle.lgc_round_trip.proofs.SetPhrases.{set_below, set_derives}
 use Rattle.lgc_round_trip.proofs.ClausePhrases.{number_derives, clause_derives, quantifier_clause_derives, clauses_derive}
@@ -59,7 +60,7 @@ module _ (n : ℕ) (logic : Logic) (is : IsLogic logic) (size : length logic.nam
       let arity = (operator_at logic op).arity in
       let name = (operator_at logic op).name in
       derive_skip _ _ op (plain (codes "operator") false) (symbol_word name ∷ sign 47 ∷ numeral arity false ∷ []) is_operator
-      (derive_then _ (λ x. Then (One (is_at_place 24)) (λ _. Then (NumberFrom (operator_at logic x).arity (operator_at logic x).arity WRONG_ARITY is_number) (λ _. Nothing x))) op op (symbol_word name ∷ []) (sign 47 ∷ numeral arity false ∷ [])
+      (derive_then _ (λ x. Then (One (is_of Slash)) (λ _. Then (NumberFrom (operator_at logic x).arity (operator_at logic x).arity WRONG_ARITY is_number) (λ _. Nothing x))) op op (symbol_word name ∷ []) (sign 47 ∷ numeral arity false ∷ [])
       (derive_allowed (operator_of logic) is_name (names_no_operator logic) UNKNOWN_NAME op (symbol_word name) (λ t e. let (tree, known) = operator_told logic is op t lt (symbol_says name t e) in (tree, symbol_passes name t e, known)))
       (derive_skip _ _ op (sign 47) (numeral arity false ∷ []) is_slash
       (derive_then (NumberFrom arity arity WRONG_ARITY is_number) (λ _. Nothing op) arity op (numeral arity false ∷ []) [] (number_derives arity arity WRONG_ARITY arity false is_number (arity_small op lt) (omega arith) (omega arith) (numeral_passes arity false (arity_small op lt))) (derive_nothing op))))
@@ -95,10 +96,10 @@ module _ (n : ℕ) (logic : Logic) (is : IsLogic logic) (size : length logic.nam
 
   -- what stands in a body behind its clauses, and behind its sign
   abbrev body_end : Rule n → Grammar Spelled (Rule n)
-  body_end rule = Then (One (is_at_place 19)) (λ _. Then (One (is_at_place 21)) (λ _. Nothing rule))
+  body_end rule = Then (One (is_of CloseSquare)) (λ _. Then (One (is_of Dot)) (λ _. Nothing rule))
 
   abbrev behind_sign : Grammar Spelled (List (List ℕ)) → (List ℕ → List (List (List ℕ)) → Rule n) → List ℕ → Grammar Spelled (Rule n)
-  behind_sign L rule_of sign = Then (One (is_at_place 22)) (λ _. Then (One (is_at_place 18)) (λ _. Then (Clauses L) (λ clauses. body_end (rule_of sign clauses))))
+  behind_sign L rule_of sign = Then (One (is_of Colon)) (λ _. Then (One (is_of OpenSquare)) (λ _. Then (Clauses L) (λ clauses. body_end (rule_of sign clauses))))
 
   body_derives : (L : Grammar Spelled (List (List ℕ))) (words : List (List ℕ) → List Word) (Q : List (List ℕ) → Type 0) → ((sets : List (List ℕ)) → Q sets → Derives L sets (words sets)) → (rule_of : List ℕ → List (List (List ℕ)) → Rule n) (set : List ℕ) (clauses : List (List (List ℕ))) → set ≢ [] → IsSet n set → AllByRecursion Q clauses → Derives (Body n logic L rule_of) (rule_of set clauses) (plain (codes "at") false ∷ (set_words logic.names set ++ (sign 58 ∷ sign 91 ∷ (joined (sign 59 ∷ []) (map words clauses) ++ sign 93 ∷ sign 46 ∷ []))))
   body_derives L words Q each rule_of set clauses some set-is good =
@@ -133,7 +134,7 @@ module _ (n : ℕ) (logic : Logic) (is : IsLogic logic) (size : length logic.nam
       let tree : Numbered n = record { number = k; rule = x } in
       let words = head_words logic (plain_rule x).head ++ body_words logic.names (plain_rule x) in
       derive_skip _ _ tree (plain (codes "rule") false) (numeral k false ∷ sign 58 ∷ words) is_rule
-      (derive_then (NumberFrom k k MISNUMBERED is_number) (λ m. Then (One (is_at_place 22)) (λ _. Then of_symbol (λ y. Nothing (numbered m y)))) k tree (numeral k false ∷ []) (sign 58 ∷ words) (number_derives k k MISNUMBERED k false is_number small (omega arith) (omega arith) (numeral_passes k false small))
+      (derive_then (NumberFrom k k MISNUMBERED is_number) (λ m. Then (One (is_of Colon)) (λ _. Then of_symbol (λ y. Nothing (numbered m y)))) k tree (numeral k false ∷ []) (sign 58 ∷ words) (number_derives k k MISNUMBERED k false is_number small (omega arith) (omega arith) (numeral_passes k false small))
       (derive_skip _ _ tree (sign 58) words is_colon
       (derive_words _ tree (words ++ []) words (append-nil words)
       (derive_then of_symbol (λ y. Nothing (numbered k y)) x tree words [] (of_symbol_derives x fits sets) (derive_nothing tree)))))

@@ -9,8 +9,9 @@ use Rattle.lgc_values.specs.Values.{has}
 use Rattle.lgc_values.specs.Logic.{Logic, IsLogic}
 use Rattle.lgc_values.proofs.ValueLaws.{has-values_where, values_where-alike}
 use Rattle.lgc_syntax.specs.declared.fault.TheConstants.{UNKNOWN_VALUE}
-use Rattle.lgc_rules.specs.Spelled.{Spelled}
-use Rattle.lgc_rules.specs.Classes.{is_value}
+use Rattle.lgc_tokens.specs.declared.class.Class.TheVariants.{CloseBrace}
+use Rattle.lgc_tokens.specs.Spelled.{Spelled}
+use Rattle.lgc_tokens.specs.Classes.{is as is_of, is_value}
 use Rattle.lgc_rules.specs.Names.{value_of, names_no_value, with_value}
 use Rattle.lgc_rules.specs.RuleGrammar.{Value, NextValue, Set}
 use Rattle.lgc_round_trip.specs.RoundTrip.{IsSet}
@@ -19,7 +20,7 @@ use Rattle.lgc_round_trip.proofs.Pieces.{sign}
 use Rattle.lgc_round_trip.proofs.Deriving.{Derives, derive_then, derive_skip, derive_nothing, derive_allowed, derive_ended, derive_grown, derive_tree}
 use Rattle.lgc_round_trip.proofs.Printing.{value_word}
 use Rattle.lgc_round_trip.proofs.Texts.{AreBelow, name_of, set_words}
-use Rattle.lgc_round_trip.proofs.Classes.{is_at_place, is_comma, is_open_brace, is_close_brace, value_passes, value_says}
+use Rattle.lgc_round_trip.proofs.Classes.{is_comma, is_open_brace, is_close_brace, value_passes, value_says}
 use Rattle.lgc_round_trip.proofs.Lookups.{value_told}
 
 -- ---- sets
@@ -76,7 +77,7 @@ module _ (n : ℕ) (logic : Logic) (is : IsLogic logic) (size : length logic.nam
 
   -- what stands behind the values of a set, and behind the first of them
   abbrev closed : List ℕ → Grammar Spelled (List ℕ)
-  closed set = Then (One (is_at_place 17)) (λ _. Nothing set)
+  closed set = Then (One (is_of CloseBrace)) (λ _. Nothing set)
 
   abbrev behind_first : ℕ → Grammar Spelled (List ℕ)
   behind_first value = Then (Growing (NextValue n logic) (value ∷ [])) closed

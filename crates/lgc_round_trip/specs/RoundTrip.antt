@@ -6,7 +6,7 @@ use Rattle.lgc_values.specs.Values.{has, values_where}
 use Rattle.lgc_values.specs.Logic.{Logic}
 use Rattle.lgc_clauses.specs.Rules.{PlainRule}
 use Rattle.lgc_clauses.specs.declared.rule.Rule.{Rule}
-use Rattle.lgc_rules.specs.Spelled.{spelled_all}
+use Rattle.lgc_tokens.specs.Spelled.{spelled_all}
 use Rattle.lgc_rules.specs.RuleGrammar.{Rules}
 
 -- a set of values below n, as the rising list of its members

@@ -18,14 +18,14 @@ use Rattle.lgc_clauses.specs.Irredundance.{set_number}
 use Rattle.lgc_clauses.specs.declared.rule.Rule.{Rule}
 use Rattle.lgc_clauses.specs.declared.rule.Numbered.{Numbered}
 use Rattle.lgc_syntax.specs.declared.fault.TheConstants.{UNKNOWN_NAME, WRONG_ARITY, UNKNOWN_VALUE, BAD_ARGUMENT}
-use Rattle.lgc_rules.specs.declared.number.TheConstants.{MOST_NUMBER}
-use Rattle.lgc_rules.specs.Numbers.{number_in, writes_number}
-use Rattle.lgc_rules.specs.Spelled.{Spelled}
-use Rattle.lgc_rules.specs.Classes.{is_number}
+use Rattle.lgc_tokens.specs.declared.number.TheConstants.{MOST_NUMBER}
+use Rattle.lgc_tokens.specs.Numbers.{number_in, writes_number}
+use Rattle.lgc_tokens.specs.Spelled.{Spelled}
+use Rattle.lgc_tokens.specs.Classes.{is_number}
 use Rattle.lgc_rules.specs.Names.{number, names_no_value, names_no_operator, names_no_quantifier, is_outside, padded, with_value}
 use Rattle.lgc_rules.specs.RuleFile.{IsRuleFor}
 use Rattle.lgc_rules.specs.RuleGrammar.{NumberFrom, Value, NextValue, Set, Literal, NextLiteral, Literals, Clause, NextAll, LastSome, AllSets, QuantifierClause, NextClause, Clauses, OperatorHead, QuantifierHead, Body, OfOperator, OfQuantifier, OneRule}
-use Rattle.lgc_rules.proofs.NumberTokens.{no_number}
+use Rattle.lgc_tokens.proofs.NumberTokens.{no_number}
 
 -- ---- repetitions
 

@@ -1,10 +1,6 @@
-pub mod NumberLaws
-pub mod Tables
 pub mod RuleReads
-pub mod NumberTokens
 pub mod Loops
 pub mod Padding
-pub mod Places
 pub mod Fitting
 pub mod RuleFaults
 pub mod Tops

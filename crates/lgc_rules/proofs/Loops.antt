@@ -1,21 +1,16 @@
 -- The loops of the code. A loop that lets a tree grow keeps one equation: what reading gives from here on, with the tree so
 -- far, is what it gives from the start. Each turn keeps it by a lemma of this file.
-use Rattle.std.proofs.Common.{◌≡◌, ℕ, Bool, true, false, List, Result, Ok, Err, OnOk, sym, ◌∙◌}
-use Rattle.lgc_grammar.specs.Grammar.{Grammar, Language, Why, Unexpected, Breaks}
+use Rattle.std.proofs.Common.{◌≡◌, ℕ, Bool, true, false, List, Result, Ok, sym, ◌∙◌}
+use Rattle.lgc_grammar.specs.Grammar.{Grammar, Language, Why}
 use Rattle.lgc_grammar.specs.Reading.{Reader, next_is, growing_at, Turn, onward, last, ending_at}
 use Rattle.lgc_grammar.proofs.Readers.{Reads, Must}
-use Rattle.lgc_rules.specs.declared.fault.Stop.{Stop}
-use Rattle.lgc_rules.specs.declared.fault.Stop.TheVariants as stop
-use Rattle.lgc_rules.specs.Spelled.{Spelled, spelled_all}
-use Rattle.lgc_rules.specs.Gives.{Fails}
+use Rattle.lgc_tokens.specs.declared.stop.Stop.{Stop}
+use Rattle.lgc_tokens.specs.Spelled.{Spelled}
+use Rattle.lgc_tokens.specs.Gives.{Fails}
+use Rattle.lgc_tokens.proofs.Stops.{fails_through}
 use Rattle.lgc_grammar.proofs.EndingTurns.{ending_ends, ending_fails, ending_closes, ending_goes}
 use Rattle.lgc_grammar.proofs.Repetitions.{reads_shrink}
 use Rattle.lgc_grammar.proofs.GrowingTrees.{growing_ends, growing_fails, growing_goes}
-
-pub fails_through : {Y Z : Type 0} (bytes : List ℕ) (e : Stop) (r : Result Y (List Spelled × Why)) (s : Result Z (List Spelled × Why)) → ((d : List Spelled × Why) → r ≡ Err d → s ≡ Err d) → Fails bytes e r → Fails bytes e s
-fails_through bytes stop.Memory r s to h = tt
-fails_through bytes (stop.Unexpected rest) r s to h = to (spelled_all bytes rest.now, Unexpected) h
-fails_through bytes (stop.Breaks n rest) r s to h = to (spelled_all bytes rest.now, Breaks n) h
 
 module _ {A : Type 0} {first : Spelled → Bool} {p : A → Reader Spelled A} {L : A → Grammar Spelled A} {P : Language Spelled} {go : Spelled → Bool} (reads : (a : A) → Reads (p a) (L a) P (Must first) go) (total : Result (A × List Spelled) (List Spelled × Why)) (a : A) (ts : List Spelled) where
   -- one more phrase
@@ -47,8 +42,3 @@ module _ {A C : Type 0} {first : Spelled → Bool} {p : A → Reader Spelled (Tu
   -- no phrase begins
   pub going_ends : false ≡ next_is first ts → ending_at first p finish a ts ≡ total → total ≡ Ok (finish a, ts)
   going_ends h so_far = sym so_far ∙ ending_ends first p finish a ts (sym h)
-
--- what holds on success
-pub when_ok : {V E P : Type 0} (r : Result V E) (v : V) → r ≡ Ok v → OnOk r P → P
-when_ok (Ok x) v e h = h
-when_ok (Err d) v e h = absurd cc

@@ -6,10 +6,10 @@ use Rattle.lgc_values.specs.Logic.{Logic, operator_at}
 use Rattle.lgc_clauses.specs.declared.rule.Rule.{Rule}
 use Rattle.lgc_syntax.specs.declared.fault.TheConstants.{UNKNOWN_NAME, WRONG_ARITY, UNKNOWN_VALUE, BAD_ARGUMENT, MISNUMBERED}
 use Rattle.lgc_clauses.specs.declared.rule.Numbered.{Numbered}
-use Rattle.lgc_rules.specs.declared.class.Class.TheVariants.{AllWord, SomeWord}
-use Rattle.lgc_rules.specs.declared.class.Class.{Class}
-use Rattle.lgc_rules.specs.Spelled.{Spelled}
-use Rattle.lgc_rules.specs.Classes.{is_name, is_number, is_argument, is_value}
+use Rattle.lgc_tokens.specs.declared.class.Class.TheVariants.{AllWord, SomeWord}
+use Rattle.lgc_tokens.specs.declared.class.Class.{Class}
+use Rattle.lgc_tokens.specs.Spelled.{Spelled}
+use Rattle.lgc_tokens.specs.Classes.{is_name, is_number, is_argument, is_value}
 use Rattle.lgc_rules.specs.Names.{value_of, operator_of, quantifier_of, number, names_no_value, names_no_operator, names_no_quantifier, is_outside, with_value, padded}
 use Rattle.lgc_rules.specs.RuleGrammar.{NumberFrom, Value, NextValue, Set, Literal, Clause, SetBehind, NextAll, LastSome, MoreSets, QuantifierClause, Clauses, OperatorHead, QuantifierHead, Body, OfOperator, OfQuantifier, OneRule, Rules, operator_rule, quantifier_rule}
 use Rattle.lgc_rules.specs.RuleFile.{IsRuleFault}

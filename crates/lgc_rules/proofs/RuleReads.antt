@@ -11,17 +11,17 @@ use Rattle.lgc_values.specs.Logic.{Logic, operator_at}
 use Rattle.lgc_clauses.specs.declared.rule.Rule.{Rule}
 use Rattle.lgc_clauses.specs.declared.rule.Numbered.{Numbered}
 use Rattle.lgc_syntax.specs.declared.fault.TheConstants.{UNKNOWN_NAME, WRONG_ARITY, UNKNOWN_VALUE, BAD_ARGUMENT, MISNUMBERED}
-use Rattle.lgc_rules.specs.declared.class.Class.TheVariants.{RuleWord, AtWord, OperatorWord, QuantifierWord, AllWord, SomeWord, Zero, Caret, OpenBrace, CloseBrace, OpenSquare, CloseSquare, Comma, Dot, Colon, Semicolon, Slash}
-use Rattle.lgc_rules.specs.declared.class.Class.{Class}
-use Rattle.lgc_rules.specs.declared.terminal.Terminal.{Terminal}
-use Rattle.lgc_rules.specs.declared.terminal.Terminal.TheVariants as terminal
-use Rattle.lgc_rules.specs.Spelled.{Spelled}
-use Rattle.lgc_rules.specs.Classes.{same, arguments, numbers, zeros, quantifier_clauses, is, is_a, is_name, is_number, is_argument, is_zero, is_value, starts_quantifier_clause}
+use Rattle.lgc_tokens.specs.declared.class.Class.TheVariants.{RuleWord, AtWord, OperatorWord, QuantifierWord, AllWord, SomeWord, Zero, Caret, OpenBrace, CloseBrace, OpenSquare, CloseSquare, Comma, Dot, Colon, Semicolon, Slash}
+use Rattle.lgc_tokens.specs.declared.class.Class.{Class}
+use Rattle.lgc_tokens.specs.declared.terminal.Terminal.{Terminal}
+use Rattle.lgc_tokens.specs.declared.terminal.Terminal.TheVariants as terminal
+use Rattle.lgc_tokens.specs.Spelled.{Spelled}
+use Rattle.lgc_tokens.specs.Classes.{same, arguments, numbers, zeros, quantifier_clauses, is, is_a, is_name, is_number, is_argument, is_zero, is_value, starts_quantifier_clause}
 use Rattle.lgc_rules.specs.Names.{value_of, operator_of, quantifier_of, number, names_no_value, names_no_operator, names_no_quantifier, is_outside, with_value, padded}
 use Rattle.lgc_rules.specs.RuleGrammar.{NumberFrom, Value, NextValue, Set, Literal, NextLiteral, Literals, EmptyClause, Clause, SetBehind, NextAll, LastSome, MoreSets, AllSets, SomeAlone, NoSets, QuantifierClause, NextClause, Clauses, OperatorHead, QuantifierHead, Body, OfOperator, OfQuantifier, OneRule, NextRule, Rules, operator_rule, quantifier_rule}
 use Rattle.lgc_rules.specs.PlainGrammar.{PlainNextValue, PlainSet, PlainLiteral, PlainLiterals, PlainClause, PlainNextAll, PlainLastSome, PlainMoreSets, PlainQuantifierClause, PlainClauses, PlainOperatorHead, PlainQuantifierHead, PlainBody, PlainRule, PlainRules, ◌then◌}
 use Rattle.lgc_rules.specs.RuleReading.{number_at, value_at, next_value_at, more_values_at, set_at, literal_at, next_literal_at, more_literals_at, literals_at, empty_clause_at, clause_at, set_behind_at, next_set_at, more_sets_at, all_sets_at, some_alone_at, no_sets_at, quantifier_clause_at, next_clause_at, more_clauses_at, some_clauses_at, clauses_at, operator_name_at, operator_head_at, quantifier_name_at, quantifier_head_at, body_at, of_operator_at, of_quantifier_at, of_symbol_at, rule_at, next_rule_at, rules_at}
-use Rattle.lgc_rules.proofs.Tables.{off, one, any, allowed}
+use Rattle.lgc_tokens.proofs.Tables.{off, one, one_of, allowed}
 use Rattle.lgc_grammar.proofs.GrowingTrees.{growing_reads}
 use Rattle.lgc_grammar.proofs.EndingTurns.{Turned, ending_reads}
 
@@ -171,7 +171,7 @@ some_alone_reads n logic = map_reads (λ some. some ∷ []) (set_behind_reads So
 
 no_sets_read : Reads no_sets_at NoSets (PlainOne is_zero) (Must is_zero) never
 unfolding no_sets_at
-no_sets_read = map_reads (λ _. [] ∷ []) (any terminal.Zero)
+no_sets_read = map_reads (λ _. [] ∷ []) (one_of terminal.Zero)
 
 -- what follows a clause may be one more set
 abbrev has_more : Spelled → Bool

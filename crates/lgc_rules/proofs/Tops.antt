@@ -19,22 +19,24 @@ use Rattle.lgc_clauses.specs.declared.rule.Numbered.{Numbered}
 use Rattle.lgc_syntax.specs.declared.fault.InputFault.{InputFault}
 use Rattle.lgc_syntax.specs.declared.fault.InputFault.TheVariants as fault
 use Rattle.lgc_syntax.specs.declared.fault.TheConstants.{FILE_TOO_LONG, BAD_BYTE, OPEN_QUOTE, UNEXPECTED}
-use Rattle.lgc_rules.specs.declared.fault.Stop.{Stop}
-use Rattle.lgc_rules.specs.declared.fault.Stop.TheVariants as stop
-use Rattle.lgc_rules.specs.declared.number.TheConstants.{MOST_NUMBER}
+use Rattle.lgc_tokens.specs.declared.stop.Stop.{Stop}
+use Rattle.lgc_tokens.specs.declared.stop.Stop.TheVariants as stop
+use Rattle.lgc_tokens.specs.declared.number.TheConstants.{MOST_NUMBER}
 use Rattle.lgc_rules.specs.declared.file.TheConstants.{LONGEST_FILE}
-use Rattle.lgc_rules.specs.declared.class.Class.TheVariants.{RuleWord}
-use Rattle.lgc_rules.specs.Spelled.{Spelled, spelled_all, place}
-use Rattle.lgc_rules.specs.Classes.{is}
+use Rattle.lgc_tokens.specs.declared.class.Class.TheVariants.{RuleWord}
+use Rattle.lgc_tokens.specs.Spelled.{Spelled, spelled_all, place}
+use Rattle.lgc_tokens.specs.Classes.{is}
 use Rattle.lgc_rules.specs.RuleGrammar.{NextRule, Rules}
 use Rattle.lgc_rules.specs.PlainGrammar.{PlainRule, PlainRules}
 use Rattle.lgc_rules.specs.RuleReading.{rule_at, rules_at}
-use Rattle.lgc_rules.specs.Gives.{Fails, Holds, IfFault, IsFaultIn, IsTree, Tells, fault_of, told_of, stop_told}
+use Rattle.lgc_tokens.specs.Gives.{Fails}
+use Rattle.lgc_rules.specs.Gives.{Holds, IfFault, IsFaultIn, IsTree, Tells, fault_of, told_of, stop_told}
 use Rattle.lgc_rules.specs.RuleFile.{IsRuleFor, TokensGive, LexedGive, LengthGives, FileGives, IsFileOf, IsRuleFault, IsFileFault}
 use Rattle.lgc_rules.specs.RulePlace.{AnyNumbered, BeginsWithNone, RuleGives, with_rest}
 use Rattle.lgc_rules.specs.FileReading.{lexed_read, file_read, rule_read}
 use Rattle.lgc_rules.proofs.RuleReads.{rule_reads, rules_read}
-use Rattle.lgc_rules.proofs.Places.{length-spelled, spelled_drop, drop_to, few_tokens}
+use Rattle.lgc_tokens.proofs.Stops.{left_over}
+use Rattle.lgc_tokens.proofs.Places.{length-spelled, spelled_drop, drop_to, few_tokens}
 use Rattle.lgc_rules.proofs.Fitting.{growing_keeps, rule_fits}
 use Rattle.lgc_rules.proofs.RuleFaults.{rule_only, rules_only}
 
@@ -280,5 +282,4 @@ module _ (n : ℕ) (logic : Logic) (end : ℕ) (bytes : List ℕ) (tokens back :
 
 -- tokens behind all rules
 pub rest_tells : (n : ℕ) (logic : Logic) (bytes : List ℕ) (ts : List Spelled) (rules : List (Rule n)) (rest : List Token) → 1 ≤ length rest → rules_at n logic ts ≡ Ok (rules, spelled_all bytes rest) → told_of (length bytes) (whole (rules_at n logic) ts) ≡ Err (fault.Fault UNEXPECTED (place (length bytes) (spelled_all bytes rest)))
-rest_tells n logic bytes ts rules [] some e = absurd (omega arith)
-rest_tells n logic bytes ts rules (t ∷ rest) some e = rw e refl
+rest_tells n logic bytes ts rules rest some e = ap (told_of (length bytes)) (left_over (rules_at n logic) ts rules bytes rest some e)

@@ -13,8 +13,8 @@ use Rattle.lgc_syntax.specs.declared.fault.InputFault.{InputFault}
 use Rattle.lgc_syntax.specs.declared.fault.InputFault.TheVariants as fault
 use Rattle.lgc_syntax.specs.declared.fault.TheConstants.{FILE_TOO_LONG, BAD_BYTE, OPEN_QUOTE}
 use Rattle.lgc_rules.specs.declared.file.TheConstants.{LONGEST_FILE}
-use Rattle.lgc_rules.specs.declared.number.TheConstants.{MOST_NUMBER}
-use Rattle.lgc_rules.specs.Spelled.{Spelled, spelled_all}
+use Rattle.lgc_tokens.specs.declared.number.TheConstants.{MOST_NUMBER}
+use Rattle.lgc_tokens.specs.Spelled.{Spelled, spelled_all}
 use Rattle.lgc_rules.specs.RuleReading.{rules_at, rule_at}
 use Rattle.lgc_rules.specs.Gives.{told_of}
 

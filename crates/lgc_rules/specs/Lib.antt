@@ -1,6 +1,3 @@
-pub mod Spelled
-pub mod Numbers
-pub mod Classes
 pub mod Names
 pub mod RuleGrammar
 pub mod PlainGrammar

@@ -2,8 +2,8 @@
 use Rattle.std.specs.Prelude.{ℕ, ◌||◌, ◌==◌, ◌-◌, nat_lt, Bool, List, [], ◌++◌, unwrap_or, is_none, replicate, length}
 use Rattle.lgc_values.specs.Logic.{Logic, value_named, operator_named, quantifier_named}
 use Rattle.lgc_values.specs.Values.{has, values_where}
-use Rattle.lgc_rules.specs.Numbers.{number_of}
-use Rattle.lgc_rules.specs.Spelled.{Spelled}
+use Rattle.lgc_tokens.specs.Numbers.{number_of}
+use Rattle.lgc_tokens.specs.Spelled.{Spelled}
 
 -- the value that a token names
 abbrev pub value_of : Logic → Spelled → ℕ

@@ -1,10 +1,10 @@
 -- The plain language of rule files: the same lines, without trees, and whether or not their names and numbers are right. It
 -- doesn't depend on the logic. A token that breaks a rule is one with which this language goes on.
 use Rattle.lgc_grammar.specs.Grammar.{Language, PlainOne, PlainNothing, PlainThen, PlainEither, PlainOptional, PlainMany}
-use Rattle.lgc_rules.specs.declared.class.Class.TheVariants.{RuleWord, AtWord, OperatorWord, QuantifierWord, AllWord, SomeWord, Zero, Caret, OpenBrace, CloseBrace, OpenSquare, CloseSquare, Comma, Dot, Colon, Semicolon, Slash}
-use Rattle.lgc_rules.specs.declared.class.Class.{Class}
-use Rattle.lgc_rules.specs.Spelled.{Spelled}
-use Rattle.lgc_rules.specs.Classes.{is, is_name, is_number, is_argument, is_zero, is_value}
+use Rattle.lgc_tokens.specs.declared.class.Class.TheVariants.{RuleWord, AtWord, OperatorWord, QuantifierWord, AllWord, SomeWord, Zero, Caret, OpenBrace, CloseBrace, OpenSquare, CloseSquare, Comma, Dot, Colon, Semicolon, Slash}
+use Rattle.lgc_tokens.specs.declared.class.Class.{Class}
+use Rattle.lgc_tokens.specs.Spelled.{Spelled}
+use Rattle.lgc_tokens.specs.Classes.{is, is_name, is_number, is_argument, is_zero, is_value}
 use Rattle.std.specs.Prelude.{Bool}
 
 -- a token of the class, and then a phrase

@@ -13,7 +13,7 @@ use Rattle.lgc_syntax.specs.declared.fault.InputFault.{InputFault}
 use Rattle.lgc_syntax.specs.declared.fault.InputFault.TheVariants as fault
 use Rattle.lgc_syntax.specs.declared.fault.TheConstants.{FILE_TOO_LONG, BAD_BYTE, OPEN_QUOTE}
 use Rattle.lgc_rules.specs.declared.file.TheConstants.{LONGEST_FILE}
-use Rattle.lgc_rules.specs.Spelled.{spelled_all}
+use Rattle.lgc_tokens.specs.Spelled.{spelled_all}
 use Rattle.lgc_rules.specs.RuleGrammar.{Rules}
 use Rattle.lgc_rules.specs.PlainGrammar.{PlainRules}
 use Rattle.lgc_rules.specs.Gives.{IsFaultIn}

@@ -3,9 +3,9 @@ use Rattle.std.specs.Prelude.{◌≡◌, ℕ, List, ◌++◌, drop, Result, Ok, 
 use Rattle.lgc_grammar.specs.Grammar.{Grammar}
 use Rattle.lgc_values.specs.Logic.{Logic}
 use Rattle.lgc_syntax.specs.declared.fault.InputFault.{InputFault}
-use Rattle.lgc_rules.specs.declared.number.TheConstants.{MOST_NUMBER}
+use Rattle.lgc_tokens.specs.declared.number.TheConstants.{MOST_NUMBER}
 use Rattle.lgc_clauses.specs.declared.rule.Numbered.{Numbered}
-use Rattle.lgc_rules.specs.Spelled.{Spelled}
+use Rattle.lgc_tokens.specs.Spelled.{Spelled}
 use Rattle.lgc_rules.specs.RuleGrammar.{OneRule}
 use Rattle.lgc_rules.specs.PlainGrammar.{PlainRule}
 use Rattle.lgc_rules.specs.Gives.{IsFaultIn}

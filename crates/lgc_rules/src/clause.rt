@@ -2,18 +2,18 @@
 ghost use Rattle.std.specs.Prelude.{◌≡◌, [], ◌∷◌, ◌++◌, ◌<◌, ◌≤◌, length, OnOk, IfOk};
 ghost use Rattle.lgc_values.specs.Values.{IsSize};
 ghost use Rattle.lgc_lexer.specs.Spans.{AllIn};
-ghost use Rattle.lgc_rules.specs.Spelled.{spelled_all, IsRest, IsShorter};
-ghost use Rattle.lgc_rules.specs.Classes.{AsksForNumber, is_number};
+ghost use Rattle.lgc_tokens.specs.Spelled.{spelled_all, IsRest, IsShorter};
+ghost use Rattle.lgc_tokens.specs.Classes.{AsksForNumber, is_number};
 ghost use Rattle.lgc_rules.specs.Names.{padded};
 ghost use Rattle.lgc_rules.specs.RuleReading.{literal_at, next_literal_at, more_literals_at, literals_at, empty_clause_at, clause_at, next_clause_at, more_clauses_at, some_clauses_at, clauses_at};
-ghost use Rattle.lgc_rules.specs.Gives.{Gives};
+ghost use Rattle.lgc_tokens.specs.Gives.{Gives};
 
-use crate::class::Class;
+use crate::reading::{Rest, number_from};
 use crate::set::read_set;
-use crate::terminal::{Reading, Rest, Terminal, next_is, number_from, one};
 use lgc_clauses::Clause;
 use lgc_lexer::Token;
 use lgc_syntax::BAD_ARGUMENT;
+use lgc_tokens::{Class, Reading, Terminal, next_is, one};
 use lgc_values::{List, Matrix, ValueSet};
 use std::alloc::{AllocError, Global};
 

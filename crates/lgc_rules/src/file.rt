@@ -7,22 +7,21 @@ ghost use Rattle.lgc_clauses.specs.declared.rule.Rule.{Rule};
 ghost use Rattle.lgc_clauses.specs.declared.rule.Numbered.{Numbered};
 ghost use Rattle.lgc_syntax.specs.declared.fault.InputFault.{InputFault};
 ghost use Rattle.lgc_syntax.specs.declared.fault.InputFault.TheVariants.{Fault};
-ghost use Rattle.lgc_rules.specs.declared.number.TheConstants.{MOST_NUMBER};
-ghost use Rattle.lgc_rules.specs.Spelled.{Spelled, spelled_all, IsRest, IsShorter};
+ghost use Rattle.lgc_tokens.specs.declared.number.TheConstants.{MOST_NUMBER};
+ghost use Rattle.lgc_tokens.specs.Spelled.{Spelled, spelled_all, IsRest, IsShorter};
 ghost use Rattle.lgc_rules.specs.RuleReading.{next_rule_at, rules_at};
-ghost use Rattle.lgc_rules.specs.Gives.{Gives, Holds, IfFault, IsTree, Tells, told_of, stop_told};
+ghost use Rattle.lgc_tokens.specs.Gives.{Gives};
+ghost use Rattle.lgc_rules.specs.Gives.{Holds, IfFault, IsTree, Tells, told_of, stop_told};
 ghost use Rattle.lgc_rules.specs.RuleFile.{IsRuleFor, FileGives, IsFileOf, IsRuleFault, IsFileFault};
 ghost use Rattle.lgc_rules.specs.RulePlace.{AnyNumbered, RuleGives, with_rest};
 ghost use Rattle.lgc_rules.specs.FileReading.{file_read, rule_read};
 
-use crate::class::Class;
-use crate::fault::Stop;
-use crate::number::MOST_NUMBER;
+use crate::reading::Rest;
 use crate::rule::one_rule;
-use crate::terminal::{Reading, Rest, Terminal, next_is, place};
 use lgc_clauses::{Numbered, Rule};
 use lgc_lexer::{LexFault, Token, lex};
 use lgc_syntax::{BAD_BYTE, FILE_TOO_LONG, InputFault, OPEN_QUOTE, UNEXPECTED};
+use lgc_tokens::{Class, MOST_NUMBER, Reading, Stop, Terminal, next_is, place};
 use lgc_values::{List, Matrix};
 use std::alloc::Global;
 

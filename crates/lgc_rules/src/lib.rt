@@ -21,15 +21,12 @@ macro_rules! tried {
     };
 }
 
-mod class;
 mod clause;
-mod fault;
 mod file;
-mod number;
 mod qclause;
+mod reading;
 mod rule;
 mod set;
-mod terminal;
 
 pub use file::{LONGEST_FILE, read_rules, rule_at};
 pub use lgc_clauses::Numbered;

@@ -2,17 +2,17 @@
 ghost use Rattle.std.specs.Prelude.{◌≡◌, [], ◌∷◌, ◌++◌, ◌<◌, ◌≤◌, length, IfOk, if◌then◌else◌};
 ghost use Rattle.lgc_values.specs.Values.{IsSize};
 ghost use Rattle.lgc_lexer.specs.Spans.{AllIn};
-ghost use Rattle.lgc_rules.specs.Spelled.{spelled_all, IsRest, IsShorter};
-ghost use Rattle.lgc_rules.specs.Classes.{starts_quantifier_clause};
+ghost use Rattle.lgc_tokens.specs.Spelled.{spelled_all, IsRest, IsShorter};
+ghost use Rattle.lgc_tokens.specs.Classes.{starts_quantifier_clause};
 ghost use Rattle.lgc_rules.specs.RuleReading.{turn_of};
 ghost use Rattle.lgc_rules.specs.RuleReading.{set_behind_at, next_set_at, more_sets_at, all_sets_at, some_alone_at, no_sets_at, quantifier_clause_at, next_clause_at, more_clauses_at, some_clauses_at, clauses_at};
-ghost use Rattle.lgc_rules.specs.Gives.{Gives};
+ghost use Rattle.lgc_tokens.specs.Gives.{Gives};
 
-use crate::class::Class;
+use crate::reading::Rest;
 use crate::set::read_set;
-use crate::terminal::{Reading, Rest, Terminal, next_is, one};
 use lgc_clauses::QClause;
 use lgc_lexer::Token;
+use lgc_tokens::{Class, Reading, Terminal, next_is, one};
 use lgc_values::{List, Matrix, ValueSet};
 use std::alloc::Global;
 

@@ -3,19 +3,18 @@ ghost use Rattle.std.specs.Prelude.{◌≡◌, [], ◌<◌, length, position, If
 ghost use Rattle.std.specs.Str.{bytes_eq};
 ghost use Rattle.lgc_values.specs.Logic.{operator_at, operator_named, quantifier_named};
 ghost use Rattle.lgc_lexer.specs.Spans.{AllIn};
-ghost use Rattle.lgc_rules.specs.Spelled.{spelled_all, IsShorter};
+ghost use Rattle.lgc_tokens.specs.Spelled.{spelled_all, IsShorter};
 ghost use Rattle.lgc_rules.specs.RuleReading.{operator_name_at, operator_head_at, quantifier_name_at, quantifier_head_at, of_operator_at, of_quantifier_at, of_symbol_at, rule_at};
-ghost use Rattle.lgc_rules.specs.Gives.{Gives};
+ghost use Rattle.lgc_tokens.specs.Gives.{Gives};
 
-use crate::class::Class;
 use crate::clause::read_clauses;
-use crate::fault::Stop;
 use crate::qclause::read_quantifier_clauses;
+use crate::reading::number_from;
 use crate::set::read_set;
-use crate::terminal::{Reading, Terminal, is_a, next_is, number_from, one};
 use lgc_clauses::{Numbered, OpRule, QRule, Rule};
 use lgc_lexer::{Token, content};
 use lgc_syntax::{MISNUMBERED, UNKNOWN_NAME, WRONG_ARITY};
+use lgc_tokens::{Class, Reading, Stop, Terminal, is_a, next_is, one};
 use lgc_values::Matrix;
 use std::alloc::Global;
 

@@ -3,17 +3,16 @@ ghost use Rattle.std.specs.Prelude.{◌≡◌, [], ◌∷◌, ◌<◌, length, p
 ghost use Rattle.std.specs.Str.{bytes_eq};
 ghost use Rattle.lgc_values.specs.Values.{IsSize};
 ghost use Rattle.lgc_lexer.specs.Spans.{AllIn};
-ghost use Rattle.lgc_rules.specs.Spelled.{spelled_all, IsRest, IsShorter};
 ghost use Rattle.lgc_values.specs.Logic.{value_named};
+ghost use Rattle.lgc_tokens.specs.Spelled.{spelled_all, IsRest, IsShorter};
 ghost use Rattle.lgc_rules.specs.RuleReading.{value_at, next_value_at, more_values_at, set_at};
-ghost use Rattle.lgc_rules.specs.Gives.{Gives};
+ghost use Rattle.lgc_tokens.specs.Gives.{Gives};
 
-use crate::class::Class;
-use crate::fault::Stop;
-use crate::terminal::{Reading, Rest, Terminal, is_a, next_is, one};
+use crate::reading::Rest;
 use lgc_lexer::{Token, content};
 use lgc_syntax::UNKNOWN_VALUE;
-use lgc_values::{Matrix, Name, ValueSet};
+use lgc_tokens::{Class, Reading, Stop, Terminal, is_a, next_is, one};
+use lgc_values::{Matrix, ValueSet};
 
 // The truth value that the next token names.
 #[tactic(auto, unfolding(crate::specs::RuleReading::value_at))]

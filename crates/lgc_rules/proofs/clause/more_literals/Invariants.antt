@@ -1,5 +1,5 @@
 use Rattle.std.proofs.Common.{◌≡◌, ◌≤◌, length}
-use Rattle.lgc_rules.specs.Spelled.{IsRest, spelled_all}
+use Rattle.lgc_tokens.specs.Spelled.{IsRest, spelled_all}
 use Rattle.lgc_rules.specs.RuleReading.{more_literals_at}
 use Rattle.lgc_rules.proofs.clause.more_literals.Given as goal
 

@@ -1,5 +1,5 @@
 use Rattle.std.proofs.Common.{◌<◌, length, arith, ◌∙◌}
-use Rattle.lgc_rules.proofs.Loops.{when_ok}
+use Rattle.lgc_tokens.proofs.Stops.{when_ok}
 use Rattle.lgc_rules.proofs.Padding.{pad_more}
 use Rattle.lgc_rules.proofs.clause.pad.Goals as goal
 

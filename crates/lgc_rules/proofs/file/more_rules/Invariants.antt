@@ -1,7 +1,7 @@
 use Rattle.std.proofs.Common.{◌≡◌, ◌+◌, ◌≤◌, length}
-use Rattle.lgc_rules.specs.declared.class.Class.TheVariants.{RuleWord}
-use Rattle.lgc_rules.specs.Spelled.{IsRest, spelled_all}
-use Rattle.lgc_rules.specs.Classes.{is}
+use Rattle.lgc_tokens.specs.declared.class.Class.TheVariants.{RuleWord}
+use Rattle.lgc_tokens.specs.Spelled.{IsRest, spelled_all}
+use Rattle.lgc_tokens.specs.Classes.{is}
 use Rattle.lgc_grammar.specs.Reading.{growing_at}
 use Rattle.lgc_rules.specs.RuleReading.{next_rule_at, rules_at}
 use Rattle.lgc_rules.proofs.file.more_rules.Given as goal

@@ -1,7 +1,7 @@
 use Rattle.std.proofs.Common.{◌≡◌, length, Ok, ap, arith}
 use Rattle.lgc_lexer.specs.Tokens.{tokens_of}
 use Rattle.lgc_lexer.proofs.SpanLaws.{tokens_all_in}
-use Rattle.lgc_rules.proofs.Places.{few_tokens}
+use Rattle.lgc_tokens.proofs.Places.{few_tokens}
 use Rattle.lgc_rules.proofs.file.rules_in.Goals as goal
 
 pub rules_of-requires : goal.rules_of-requires

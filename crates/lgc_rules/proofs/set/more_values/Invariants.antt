@@ -1,5 +1,5 @@
 use Rattle.std.proofs.Common.{◌≡◌, length}
-use Rattle.lgc_rules.specs.Spelled.{IsRest, spelled_all}
+use Rattle.lgc_tokens.specs.Spelled.{IsRest, spelled_all}
 use Rattle.lgc_rules.specs.RuleReading.{more_values_at}
 use Rattle.lgc_rules.proofs.set.more_values.Given as goal
 
