@@ -1,8 +1,9 @@
 -- The printed form of rules.
 use Rattle.std.specs.Prelude.{ℕ, ◌+◌, ◌==◌, ◌&&◌, ◌||◌, Bool, false, List, [], ◌∷◌, ◌++◌, map, codes, slice_index_or, if◌then◌else◌}
-use Rattle.std.specs.Char.{is_ascii_alphanumeric, is_ascii_lowercase}
+use Rattle.std.specs.Char.{is_ascii_lowercase}
 use Rattle.std.specs.List.{flat_map, list_all}
 use Rattle.std.specs.Fmt.{decimal}
+use Rattle.lgc_lexer.specs.Forms.{is_word}
 use Rattle.lgc_values.specs.Logic.{Logic, operator_at, quantifier_at}
 use Rattle.lgc_clauses.specs.Rules.{Head, operator, quantifier, PlainRule}
 
@@ -11,21 +12,17 @@ abbrev pub joined : {X : Type 0} → List X → List (List X) → List X
 joined separator [] = []
 joined separator (piece ∷ pieces) = piece ++ flat_map (λ p. separator ++ p) pieces
 
--- a letter, a digit or `_`, whose code is 95
-abbrev pub is_word_byte : ℕ → Bool
-is_word_byte b = is_ascii_alphanumeric b || b == 95
-
 -- a lower-case letter, and then letters, digits and `_`
 abbrev pub is_lower_word : List ℕ → Bool
 is_lower_word [] = false
-is_lower_word (b ∷ rest) = is_ascii_lowercase b && list_all is_word_byte rest
+is_lower_word (b ∷ rest) = is_ascii_lowercase b && list_all is_word rest
 
 abbrev pub quoted : List ℕ → List ℕ
 quoted name = codes "'" ++ name ++ codes "'"
 
 -- the name of a truth value, in quotes unless it has word bytes alone
 abbrev pub value_text : List ℕ → List ℕ
-value_text name = if list_all is_word_byte name then name else quoted name
+value_text name = if list_all is_word name then name else quoted name
 
 -- the name of an operator or a quantifier, in quotes unless it is a lower-case word
 abbrev pub symbol_text : List ℕ → List ℕ

@@ -2,25 +2,26 @@
 ghost use Rattle.std.specs.Prelude.{◌≡◌, ◌++◌, ◌<◌, ◌≤◌, ◌^◌, ◌+◌, length, take, All, map, OnOk, OnErr, IfOk, codes};
 ghost use Rattle.std.specs.Fmt.{decimal};
 ghost use Rattle.std.specs.List.{list_all};
+ghost use Rattle.lgc_lexer.specs.Forms.{is_word};
 ghost use Rattle.lgc_values.specs.declared.TheConstants.{MOST_ARGUMENTS};
 ghost use Rattle.lgc_clauses.specs.Kinds.{plain_rule};
 ghost use Rattle.lgc_clauses.specs.Rules.{Fits};
-ghost use Rattle.lgc_print.specs.Text.{joined, is_word_byte, is_lower_word, quoted, value_text, symbol_text, set_text, literal_text, operator_clause_text, all_text, quantifier_clause_text, clauses_text, head_text, rule_text, calculus_text};
+ghost use Rattle.lgc_print.specs.Text.{joined, is_lower_word, quoted, value_text, symbol_text, set_text, literal_text, operator_clause_text, all_text, quantifier_clause_text, clauses_text, head_text, rule_text, calculus_text};
 
 use lgc_clauses::{Clause, QClause, Rule};
 use lgc_values::{Matrix, Name, Operator, Quantifier, ValueSet};
 use std::alloc::{AllocError, Global};
 
-fn is_word_byte(byte: u8) -> bool
-    ensures { result ≡ is_word_byte byte }
+fn is_word(byte: u8) -> bool
+    ensures { result ≡ is_word byte }
 {
     byte.is_ascii_alphanumeric() || byte == b'_'
 }
 
 fn has_word_bytes(name: &[u8]) -> bool
-    ensures { result ≡ list_all is_word_byte name.now }
+    ensures { result ≡ list_all is_word name.now }
 {
-    name.iter().all(|b| is_word_byte(*b))
+    name.iter().all(|b| is_word(*b))
 }
 
 fn is_lower_word(name: &[u8]) -> bool

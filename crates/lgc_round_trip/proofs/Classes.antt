@@ -5,8 +5,9 @@ use Rattle.std.specs.Char.{is_ascii_digit, is_ascii_lowercase, is_ascii_uppercas
 use Rattle.std.specs.List.{list_all}
 use Rattle.std.specs.Fmt.{decimal}
 use Rattle.std.proofs.lemmas.Bool.Decides.{nat_tests}
+use Rattle.lgc_lexer.specs.Forms.{is_word}
 use Rattle.lgc_lexer.specs.declared.token.Kind.TheVariants as kind
-use Rattle.lgc_print.specs.Text.{is_word_byte, is_lower_word}
+use Rattle.lgc_print.specs.Text.{is_lower_word}
 use Rattle.lgc_tokens.specs.declared.class.Class.{Class}
 use Rattle.lgc_tokens.specs.declared.class.Class.TheVariants.{RuleWord, AtWord, OperatorWord, QuantifierWord, AllWord, SomeWord, Zero, Digits, Mixed, Caret, OpenBrace, CloseBrace, OpenSquare, CloseSquare, Comma, Dot, Colon, Semicolon, Slash}
 use Rattle.lgc_tokens.specs.Spelled.{Spelled}
@@ -135,20 +136,20 @@ unfolding class_of
 values_seen t w e = ap (λ (v : Word). values (class_in v.kind v.text v.before_caret)) e
 
 pub value_passes : (name : List ℕ) (t : Spelled) → word_of t ≡ value_word name → is_value t ≡ true
-value_passes name t e = values_seen t (value_word name) e ∙ value_class name (list_all is_word_byte name)
+value_passes name t e = values_seen t (value_word name) e ∙ value_class name (list_all is_word name)
 
 text_of_either : (name : List ℕ) (b : Bool) → (cond b (plain name false) (in_quotes name)).text ≡ name
 text_of_either name true = refl
 text_of_either name false = refl
 
 pub value_says : (name : List ℕ) (t : Spelled) → word_of t ≡ value_word name → t.text ≡ name
-value_says name t e = ap (λ (w : Word). w.text) e ∙ text_of_either name (list_all is_word_byte name)
+value_says name t e = ap (λ (w : Word). w.text) e ∙ text_of_either name (list_all is_word name)
 
 lower_is_name : (name : List ℕ) → is_lower_word name ≡ true → names (class_in (kind_of name) name false) ≡ true
 lower_is_name [] h = absurd cc
 lower_is_name (b ∷ name) h = by (is_ascii_lowercase b) h
   where
-    by : (l : Bool) → (l && list_all is_word_byte name) ≡ true → names (class_in (cond l kind.Lower (cond (is_ascii_uppercase b || b == 95) kind.Upper kind.Digits)) (b ∷ name) false) ≡ true
+    by : (l : Bool) → (l && list_all is_word name) ≡ true → names (class_in (cond l kind.Lower (cond (is_ascii_uppercase b || b == 95) kind.Upper kind.Digits)) (b ∷ name) false) ≡ true
     by true h = words_are_names (b ∷ name)
     by false h = absurd cc
 

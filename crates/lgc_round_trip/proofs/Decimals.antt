@@ -9,8 +9,8 @@ use Rattle.std.proofs.lemmas.Bool.Decides.{nat_tests}
 use Rattle.std.proofs.lemmas.Grind.{fold-append}
 use Rattle.std.proofs.lemmas.List.Folds.{list_all-append}
 use Rattle.std.proofs.lemmas.Fmt.{decimal_by_steps, decimal_digit, first_decimal}
+use Rattle.lgc_lexer.specs.Forms.{is_word}
 use Rattle.lgc_lexer.specs.declared.token.Kind.TheVariants.{Digits}
-use Rattle.lgc_print.specs.Text.{is_word_byte}
 use Rattle.lgc_tokens.specs.Numbers.{number_of, number_in, has_leading_zero}
 use Rattle.lgc_round_trip.proofs.Pieces.{kind_of}
 
@@ -46,10 +46,10 @@ writes_decimal n lt = decimal_by_steps Writes writes_one writes_more n lt
 
 -- ---- as a token
 
-digit_is_word : (b : ℕ) → is_ascii_digit b ≡ true → is_word_byte b ≡ true
+digit_is_word : (b : ℕ) → is_ascii_digit b ≡ true → is_word b ≡ true
 digit_is_word b h = rw h refl
 
-digits_are_word : (xs : List ℕ) → list_all is_ascii_digit xs ≡ true → list_all is_word_byte xs ≡ true
+digits_are_word : (xs : List ℕ) → list_all is_ascii_digit xs ≡ true → list_all is_word xs ≡ true
 digits_are_word [] h = refl
 digits_are_word (x ∷ xs) h =
     let (one, others) = both (is_ascii_digit x) (list_all is_ascii_digit xs) h in
@@ -59,7 +59,7 @@ digits_are_word (x ∷ xs) h =
     both true v e = (refl, e)
     both false v e = absurd cc
 
-pub decimal_is_word : (n : ℕ) → n < 2 ^ 64 → list_all is_word_byte (decimal n) ≡ true
+pub decimal_is_word : (n : ℕ) → n < 2 ^ 64 → list_all is_word (decimal n) ≡ true
 decimal_is_word n lt = digits_are_word (decimal n) (writes_decimal n lt).are_digits
 
 not_lower : (b : ℕ) → is_ascii_digit b ≡ true → is_ascii_lowercase b ≡ false

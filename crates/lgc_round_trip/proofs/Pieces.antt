@@ -15,7 +15,7 @@ use Rattle.lgc_lexer.specs.Forms.{is_word, is_symbol, is_quotable}
 use Rattle.lgc_lexer.specs.Tokens.{piece_of, tokens_after, then_token}
 use Rattle.lgc_lexer.specs.Spans.{quote_len}
 use Rattle.lgc_values.specs.Logic.{IsPlainName}
-use Rattle.lgc_print.specs.Text.{is_word_byte, quoted}
+use Rattle.lgc_print.specs.Text.{quoted}
 use Rattle.lgc_round_trip.proofs.Lexing.{Word, begins_with, Lexes, HasContent, IsTaken, IsBlankByte, lex_token, lex_blank}
 
 -- the first byte, if there is one, fails the test
@@ -86,11 +86,11 @@ unquoted false false = refl
 whole_content : (kind : Kind) (text : List ℕ) → 0 ≡ quote_len kind → HasContent kind text text
 whole_content kind text none = record { opening = []; closing = []; split = sym (append-nil text); left = none; right = none }
 
-pub lex_word : (name rest : List ℕ) (words : List Word) (flag : Bool) → name ≢ [] → list_all is_word_byte name ≡ true → FailsFirst is_word rest → begins_with words ≡ flag → Lexes rest words → Lexes (name ++ rest) (plain name flag ∷ words)
+pub lex_word : (name rest : List ℕ) (words : List Word) (flag : Bool) → name ≢ [] → list_all is_word name ≡ true → FailsFirst is_word rest → begins_with words ≡ flag → Lexes rest words → Lexes (name ++ rest) (plain name flag ∷ words)
 lex_word [] rest words flag some all next is lexed = absurd (some refl)
 lex_word (b ∷ more) rest words flag some all next is lexed =
-    let word : is_word b ≡ true = and_left (is_word_byte b) (list_all is_word_byte more) all in
-    let run : prefix_len is_word (more ++ rest) ≡ length more = prefix_runs is_word more rest (and_right (is_word_byte b) (list_all is_word_byte more) all) next in
+    let word : is_word b ≡ true = and_left (is_word b) (list_all is_word more) all in
+    let run : prefix_len is_word (more ++ rest) ≡ length more = prefix_runs is_word more rest (and_right (is_word b) (list_all is_word more) all) next in
     let taken : IsTaken b (more ++ rest) (kind_at b) (prefix_len is_word (more ++ rest)) = record { gives = λ at after. word_gives b (more ++ rest) at after (is_ascii_lowercase b) (is_ascii_uppercase b || b == 95) word refl refl } in
     lex_token (kind_at b) b more (b ∷ more) rest words flag (subst (λ n. IsTaken b (more ++ rest) (kind_at b) n) run taken) (whole_content (kind_at b) (b ∷ more) (unquoted (is_ascii_lowercase b) (is_ascii_uppercase b || b == 95))) is lexed
 

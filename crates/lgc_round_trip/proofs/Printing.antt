@@ -10,7 +10,7 @@ use Rattle.lgc_lexer.specs.declared.token.Kind.TheVariants.{Lower, Upper, Digits
 use Rattle.lgc_lexer.specs.Forms.{is_word, is_symbol}
 use Rattle.lgc_tokens.specs.Spelled.{is_symbol as is_symbol_kind}
 use Rattle.lgc_values.specs.Logic.{IsPlainName}
-use Rattle.lgc_print.specs.Text.{joined, is_word_byte, is_lower_word, quoted, value_text, symbol_text}
+use Rattle.lgc_print.specs.Text.{joined, is_lower_word, quoted, value_text, symbol_text}
 use Rattle.lgc_round_trip.proofs.Lexing.{Word, begins_with, Lexes}
 use Rattle.lgc_round_trip.proofs.Pieces.{FailsFirst, plain, in_quotes, sign, caret, lex_word, lex_quoted, lex_sign, lex_caret, lex_space, lex_line_feed, comma_taken, dot_taken, slash_taken, colon_taken, semicolon_taken, open_square_taken, close_square_taken, open_brace_taken, close_brace_taken}
 use Rattle.lgc_round_trip.proofs.Decimals.{writes_decimal, decimal_is_word, kind_of_decimal}
@@ -100,11 +100,11 @@ kind_is_no_symbol true u v = refl
 kind_is_no_symbol false true v = refl
 kind_is_no_symbol false false v = refl
 
-pub word_prints : (name : List ℕ) → name ≢ [] → list_all is_word_byte name ≡ true → Prints Ends name (plain name false ∷ [])
+pub word_prints : (name : List ℕ) → name ≢ [] → list_all is_word name ≡ true → Prints Ends name (plain name false ∷ [])
 word_prints [] some all = absurd (some refl)
 word_prints (b ∷ name) some all = record {
   lexes = λ rest more e l. lex_word (b ∷ name) rest more false some all e.word e.starts.caret l;
-  starts = λ rest more. record { symbol = word_is_no_symbol b (first (is_word_byte b) (list_all is_word_byte name) all); caret = kind_is_no_symbol (is_ascii_lowercase b) (is_ascii_uppercase b || b == 95) _ };
+  starts = λ rest more. record { symbol = word_is_no_symbol b (first (is_word b) (list_all is_word name) all); caret = kind_is_no_symbol (is_ascii_lowercase b) (is_ascii_uppercase b || b == 95) _ };
 }
   where
     first : (u v : Bool) → (u && v) ≡ true → u ≡ true
@@ -119,12 +119,12 @@ quoted_prints name named = record {
 
 -- the name of a value, as it is or in quotes
 abbrev pub value_word : List ℕ → Word
-value_word name = cond (list_all is_word_byte name) (plain name false) (in_quotes name)
+value_word name = cond (list_all is_word name) (plain name false) (in_quotes name)
 
 pub value_prints : (name : List ℕ) → IsPlainName name → Prints Ends (value_text name) (value_word name ∷ [])
-value_prints name named = by (list_all is_word_byte name) refl
+value_prints name named = by (list_all is_word name) refl
   where
-    by : (v : Bool) → list_all is_word_byte name ≡ v → Prints Ends (cond v name (quoted name)) (cond v (plain name false) (in_quotes name) ∷ [])
+    by : (v : Bool) → list_all is_word name ≡ v → Prints Ends (cond v name (quoted name)) (cond v (plain name false) (in_quotes name) ∷ [])
     by true e = word_prints name named.nonempty e
     by false e = quoted_prints name named
 
@@ -132,18 +132,18 @@ value_prints name named = by (list_all is_word_byte name) refl
 abbrev pub symbol_word : List ℕ → Word
 symbol_word name = cond (is_lower_word name) (plain name false) (in_quotes name)
 
-lower_is_word : (name : List ℕ) → is_lower_word name ≡ true → list_all is_word_byte name ≡ true
+lower_is_word : (name : List ℕ) → is_lower_word name ≡ true → list_all is_word name ≡ true
 lower_is_word [] h = refl
-lower_is_word (b ∷ name) h = by (is_ascii_lowercase b) (list_all is_word_byte name) refl h
+lower_is_word (b ∷ name) h = by (is_ascii_lowercase b) (list_all is_word name) refl h
   where
     last : (u v w : Bool) → v ≡ true → ((u || v) || w) ≡ true
     last true v w e = refl
     last false true w e = refl
     last false false w e = absurd cc
 
-    by : (u v : Bool) → is_ascii_lowercase b ≡ u → (u && v) ≡ true → (is_word_byte b && v) ≡ true
+    by : (u v : Bool) → is_ascii_lowercase b ≡ u → (u && v) ≡ true → (is_word b && v) ≡ true
     by false v e h = absurd cc
-    by true v e h = let word : is_word_byte b ≡ true = last (is_ascii_digit b || is_ascii_uppercase b) (is_ascii_lowercase b) (b == 95) e in rw word h
+    by true v e h = let word : is_word b ≡ true = last (is_ascii_digit b || is_ascii_uppercase b) (is_ascii_lowercase b) (b == 95) e in rw word h
 
 pub symbol_prints : (name : List ℕ) → IsPlainName name → Prints Ends (symbol_text name) (symbol_word name ∷ [])
 symbol_prints name named = by (is_lower_word name) refl
