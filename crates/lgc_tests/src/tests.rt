@@ -1,6 +1,7 @@
 // What the tables can't say: the machine's files, and calls that the program doesn't make.
 use lgc_io::{FileFault, Files, HostFiles, Reading, Sink, SinkFault, StreamSink};
 use lgc_lexer::lex;
+use lgc_print::write_rule;
 use lgc_round_trip::{have_signs, text_of_rules};
 use lgc_rules::{read_rules, rule_at};
 use lgc_spec::{matrix_of, read_spec};
@@ -79,39 +80,35 @@ fn reads_back_what_is_printed(rt: HostRuntime) -> Result<(), Fail> {
     Ok(())
 }
 
-// The number of the rule that begins with the token at this place, and the place of the token behind it; or its fault.
-fn read_at(alloc: Global, m: &Matrix<2>, at: usize) -> Result<(u32, usize), InputFault> {
+// The text of the rule that begins with the token at this place, and the place of the token behind it; or its fault.
+fn read_at(alloc: Global, m: &Matrix<2>, at: usize) -> Result<(Vec<u8>, usize), InputFault> {
     let bytes = b"end rule 7: operator '&'/2 at {0x}: [1^{0x}; 2^{0x}]. rule 1: operator '&'/1";
     match lex(alloc, bytes) {
         Ok(tokens) if at <= tokens.len() => {
             let (found, behind) = rule_at(alloc, m, bytes, &tokens, at)?;
-            Ok((found.number, behind))
+            let mut text = Vec::new(alloc);
+            write_rule(alloc, m, found.number, &found.rule, &mut text)?;
+            Ok((text, behind))
         }
         _ => Err(InputFault::Memory),
     }
 }
 
-fn fault_at(number: u8, offset: u32) -> Result<(u32, usize), InputFault> {
-    Err(InputFault::Fault { number, offset })
+fn fault_at(number: u8, offset: u32) -> Option<InputFault> {
+    Some(InputFault::Fault { number, offset })
 }
 
 #[test]
 fn reads_rules_among_tokens(rt: HostRuntime) -> Result<(), Fail> {
     let m = matrix(rt.alloc(), QUOTED)?.ok_or("a logic")?;
-    let found = [
-        read_at(rt.alloc(), &m, 0),
-        read_at(rt.alloc(), &m, 1),
-        read_at(rt.alloc(), &m, 27),
-        read_at(rt.alloc(), &m, 34),
+    let (text, behind) = read_at(rt.alloc(), &m, 1)?;
+    let expected = b"rule 7: operator '&'/2 at {0x}: [1^{0x}; 2^{0x}].\n".as_slice();
+    assert!(rt; text.as_slice() == expected && behind == 27);
+    let faults = [
+        read_at(rt.alloc(), &m, 0).err(),
+        read_at(rt.alloc(), &m, 27).err(),
+        read_at(rt.alloc(), &m, 34).err(),
     ];
-    assert!(rt;
-        found
-            == [
-                fault_at(4, 0),
-                Ok((7, 27)),
-                fault_at(6, 75),
-                fault_at(4, 76)
-            ]
-    );
+    assert!(rt; faults == [fault_at(4, 0), fault_at(6, 75), fault_at(4, 76)]);
     Ok(())
 }
