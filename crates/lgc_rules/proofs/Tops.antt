@@ -30,7 +30,8 @@ use Rattle.lgc_rules.specs.RuleGrammar.{NextRule, Rules}
 use Rattle.lgc_rules.specs.PlainGrammar.{PlainRule, PlainRules}
 use Rattle.lgc_rules.specs.RuleReading.{rule_at, rules_at}
 use Rattle.lgc_tokens.specs.Gives.{Fails}
-use Rattle.lgc_rules.specs.Gives.{Holds, IfFault, IsFaultIn, IsTree, Tells, fault_of, told_of, stop_told}
+use Rattle.lgc_rules.specs.Faults.{IsFaultIn, fault_of}
+use Rattle.lgc_rules.specs.Gives.{Holds, IfFault, IsTree, Tells, told_of, stop_told}
 use Rattle.lgc_rules.specs.RuleFile.{IsRuleFor, TokensGive, LexedGive, LengthGives, FileGives, IsFileOf, IsRuleFault, IsFileFault}
 use Rattle.lgc_rules.specs.RulePlace.{AnyNumbered, BeginsWithNone, RuleGives, with_rest}
 use Rattle.lgc_rules.specs.FileReading.{lexed_read, file_read, rule_read}

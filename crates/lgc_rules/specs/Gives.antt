@@ -1,21 +1,12 @@
 -- What callers are answered.
 use Rattle.std.specs.Prelude.{◌≡◌, ℕ, List, length, Result, Ok, Err}
-use Rattle.lgc_grammar.specs.Grammar.{Grammar, Language, Why, Unexpected, Breaks, StopsAt}
+use Rattle.lgc_grammar.specs.Grammar.{Why, Unexpected, Breaks}
 use Rattle.lgc_syntax.specs.declared.fault.InputFault.{InputFault}
 use Rattle.lgc_syntax.specs.declared.fault.InputFault.TheVariants as fault
-use Rattle.lgc_syntax.specs.declared.fault.TheConstants.{UNEXPECTED}
 use Rattle.lgc_tokens.specs.declared.stop.Stop.{Stop}
 use Rattle.lgc_tokens.specs.declared.stop.Stop.TheVariants as stop
-use Rattle.lgc_tokens.specs.Spelled.{Spelled, spelled_all, place}
-
--- the fault that reading tells: its number, and the place of the first token that is left
-abbrev pub fault_of : ℕ → List Spelled × Why → InputFault
-fault_of end (rest, Unexpected) = fault.Fault UNEXPECTED (place end rest)
-fault_of end (rest, Breaks n) = fault.Fault n (place end rest)
-
--- The fault is that of the token before which reading the tokens stops.
-abbrev pub IsFaultIn : {A : Type 0} → Grammar Spelled A → Language Spelled → ℕ → List Spelled → InputFault → Type 0
-IsFaultIn L P end ts f = (rest : List Spelled) × (why : Why) × StopsAt L P ts rest why × (f ≡ fault_of end (rest, why))
+use Rattle.lgc_tokens.specs.Spelled.{Spelled, spelled_all}
+use Rattle.lgc_rules.specs.Faults.{fault_of}
 
 -- The number of a fault has this property.
 abbrev pub IfFault : {X : Type 0} → Result X InputFault → (ℕ → Type 0) → Type 0

@@ -2,6 +2,7 @@ pub mod Names
 pub mod RuleGrammar
 pub mod PlainGrammar
 pub mod RuleReading
+pub mod Faults
 pub mod Gives
 pub mod RuleFile
 pub mod RulePlace

@@ -16,7 +16,7 @@ use Rattle.lgc_rules.specs.declared.file.TheConstants.{LONGEST_FILE}
 use Rattle.lgc_tokens.specs.Spelled.{spelled_all}
 use Rattle.lgc_rules.specs.RuleGrammar.{Rules}
 use Rattle.lgc_rules.specs.PlainGrammar.{PlainRules}
-use Rattle.lgc_rules.specs.Gives.{IsFaultIn}
+use Rattle.lgc_rules.specs.Faults.{IsFaultIn}
 
 -- a rule for the logic, whose clauses and sets have numbers of 32 bits
 pub record IsRuleFor (n : ℕ) (logic : Logic) (rule : Rule n) : Type 0 where

@@ -8,7 +8,7 @@ use Rattle.lgc_clauses.specs.declared.rule.Numbered.{Numbered}
 use Rattle.lgc_tokens.specs.Spelled.{Spelled}
 use Rattle.lgc_rules.specs.RuleGrammar.{OneRule}
 use Rattle.lgc_rules.specs.PlainGrammar.{PlainRule}
-use Rattle.lgc_rules.specs.Gives.{IsFaultIn}
+use Rattle.lgc_rules.specs.Faults.{IsFaultIn}
 
 -- a rule with any number
 abbrev pub AnyNumbered : (n : ℕ) → Logic → Grammar Spelled (Numbered n)

@@ -1,6 +1,5 @@
 // Rules with their numbers.
-ghost use Rattle.std.specs.Prelude.{◌≡◌, [], ◌<◌, length, position, IfOk, IfSome};
-ghost use Rattle.std.specs.Str.{bytes_eq};
+ghost use Rattle.std.specs.Prelude.{◌≡◌, [], ◌<◌, length, IfOk};
 ghost use Rattle.lgc_values.specs.Logic.{operator_at, operator_named, quantifier_named};
 ghost use Rattle.lgc_lexer.specs.Spans.{AllIn};
 ghost use Rattle.lgc_tokens.specs.Spelled.{spelled_all, IsShorter};

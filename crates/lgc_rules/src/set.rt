@@ -1,6 +1,5 @@
 // Sets of truth values.
-ghost use Rattle.std.specs.Prelude.{◌≡◌, [], ◌∷◌, ◌<◌, length, position, IfOk, IfSome};
-ghost use Rattle.std.specs.Str.{bytes_eq};
+ghost use Rattle.std.specs.Prelude.{◌≡◌, [], ◌∷◌, ◌<◌, length, IfOk};
 ghost use Rattle.lgc_values.specs.Values.{IsSize};
 ghost use Rattle.lgc_lexer.specs.Spans.{AllIn};
 ghost use Rattle.lgc_values.specs.Logic.{value_named};
