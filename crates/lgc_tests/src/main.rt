@@ -3,7 +3,8 @@
 //! Each file under `data/` is a table. A line that begins with `== ` begins a section:
 //!
 //! - `== note TEXT`: what the sections behind it are about.
-//! - `== file NAME`: the lines behind it are the bytes of the file of this name, up to the next such line of this table.
+//! - `== file NAME`: the lines behind it are the bytes of the file of this name, up to the next such line of this table. A name is
+//!   `l.lgc` or `r.txt`; both files are empty at first.
 //! - `== padded NAME LENGTH`: the file of this name is as before, with blanks behind it up to this length.
 //! - `== failing NUMBER`: in the next run the read of this number fails.
 //! - `== room NUMBER`: in the next run the first put to either sink fails after so many bytes.

@@ -1,14 +1,17 @@
 // One table of runs: what its sections tell, and whether a run ends as they say.
+ghost use Rattle.std.specs.Prelude.{◌≡◌, IfOk, [], ◌∷◌, codes};
+
 use lgc_io::{MemoryFiles, MemorySink};
 use lgc_top::{exit_number, run_multlog};
 use lgc_values::{List, Name};
 use std::alloc::{AllocError, Global};
 
-/// What a table has told so far: files by their names and contents, and the next run.
+/// What a table has told so far: the bytes of the files `l.lgc` and `r.txt`, and the next run.
 #[derive(Drop)]
 pub(crate) struct Table {
     alloc: Global,
-    files: Vec<(String, Vec<u8>)>,
+    spec: Vec<u8>,
+    input: Vec<u8>,
     words: Vec<String>,
     failing: Option<u64>,
     room: Option<usize>,
@@ -19,7 +22,8 @@ impl Table {
     pub(crate) fn new(alloc: Global) -> Table {
         Table {
             alloc,
-            files: Vec::new(alloc),
+            spec: Vec::new(alloc),
+            input: Vec::new(alloc),
             words: Vec::new(alloc),
             failing: None,
             room: None,
@@ -32,7 +36,7 @@ impl Table {
         let (kind, rest) = line.split_once(' ').unwrap_or((line, ""));
         match kind {
             "note" => Ok(true),
-            "file" => self.add_file(rest, lines),
+            "file" => self.set_file(rest, lines),
             "padded" => self.pad_file(rest),
             "failing" => {
                 self.failing = rest.parse().ok();
@@ -49,24 +53,26 @@ impl Table {
         }
     }
 
-    fn add_file(&mut self, name: &str, content: &str) -> Result<bool, AllocError> {
-        let name = String::from_str(self.alloc, name)?;
+    fn set_file(&mut self, name: &str, content: &str) -> Result<bool, AllocError> {
         let content = Vec::from_slice(self.alloc, content.as_bytes())?;
-        self.files.push((name, content))?;
+        match name {
+            "l.lgc" => self.spec = content,
+            "r.txt" => self.input = content,
+            _ => return Ok(false),
+        }
         Ok(true)
     }
 
-    // Puts blanks behind the last file, which has to be of this name, up to a length.
+    // Puts blanks behind a file, up to a length.
     fn pad_file(&mut self, name_and_length: &str) -> Result<bool, AllocError> {
         let (name, length) = name_and_length.split_once(' ').unwrap_or(("", ""));
         let length: usize = length.parse().unwrap_or(0);
-        match self.files.last_mut() {
-            Some((last, content)) if last.as_str() == name => {
-                content.resize(length, b' ')?;
-                Ok(true)
-            }
-            _ => Ok(false),
+        match name {
+            "l.lgc" => self.spec.resize(length, b' ')?,
+            "r.txt" => self.input.resize(length, b' ')?,
+            _ => return Ok(false),
         }
+        Ok(true)
     }
 
     fn set_words(&mut self, words: Option<&str>) -> Result<bool, AllocError> {
@@ -79,20 +85,12 @@ impl Table {
         Ok(true)
     }
 
-    // The files, the last ones first, since the first of a name counts.
-    fn contents(&self) -> Result<List<(Name, List<u8>)>, AllocError> {
-        let mut files = List::new(self.alloc);
-        for (name, content) in self.files.iter().rev() {
-            files.push(file_of(self.alloc, name.as_bytes(), content)?)?;
-        }
-        Ok(files)
-    }
-
     // Makes the run. Whether it ends with this number, and these lines stand in the two sinks.
     fn ends(&mut self, number: &str, out: &str, err: &str) -> Result<bool, AllocError> {
         let alloc = self.alloc;
         self.runs = self.runs.saturating_add(1);
-        let mut files = MemoryFiles::new(alloc, self.contents()?, listed(alloc, self.failing)?);
+        let contents = contents_of(alloc, &self.spec, &self.input)?;
+        let mut files = MemoryFiles::new(alloc, contents, listed(alloc, self.failing)?);
         let mut output = MemorySink::new(alloc, puts_failing(alloc, self.room)?);
         let mut error = MemorySink::new(alloc, puts_failing(alloc, self.room)?);
         let status = run_multlog(alloc, &self.words, &mut files, &mut output, &mut error);
@@ -107,10 +105,29 @@ impl Table {
     }
 }
 
-fn file_of(alloc: Global, name: &[u8], content: &[u8]) -> Result<(Name, List<u8>), AllocError> {
-    let name = Name::of_bytes(alloc, name)?;
-    let bytes = Vec::from_slice(alloc, content)?;
-    Ok((name, List::of_vec(bytes)))
+fn name_of(alloc: Global, text: &[u8]) -> Result<Name, AllocError>
+    ensures { IfOk result (λ name. name ≡ text.now) }
+{
+    Name::of_bytes(alloc, text)
+}
+
+fn bytes_of(alloc: Global, bytes: &[u8]) -> Result<List<u8>, AllocError>
+    ensures { IfOk result (λ copy. copy ≡ bytes.now) }
+{
+    Ok(List::of_vec(Vec::from_slice(alloc, bytes)?))
+}
+
+// The two files with their names, which differ.
+fn contents_of(
+    alloc: Global,
+    spec: &[u8],
+    input: &[u8],
+) -> Result<List<(Name, List<u8>)>, AllocError>
+    ensures { IfOk result (λ files. files ≡ (codes "l.lgc", spec.now) ∷ (codes "r.txt", input.now) ∷ []) }
+{
+    let first = (name_of(alloc, b"l.lgc")?, bytes_of(alloc, spec)?);
+    let second = (name_of(alloc, b"r.txt")?, bytes_of(alloc, input)?);
+    Ok(List::of_vec(vec![in alloc; first, second]?))
 }
 
 fn listed(alloc: Global, number: Option<u64>) -> Result<List<u64>, AllocError> {

@@ -1,4 +1,9 @@
 // What the tables can't say: the machine's files, and calls that the program doesn't make.
+ghost use Rattle.std.specs.Prelude.{All};
+ghost use Rattle.lgc_clauses.specs.Kinds.{plain_rule};
+ghost use Rattle.lgc_clauses.specs.Rules.{Fits};
+
+use lgc_clauses::Rule;
 use lgc_io::{FileFault, Files, HostFiles, Reading, Sink, SinkFault, StreamSink};
 use lgc_lexer::lex;
 use lgc_print::write_rule;
@@ -58,24 +63,31 @@ rule 2: quantifier 'For all' at {0x,'1/2'}: [all{'1/2'}, all{0x,'1/2'}, some{0x}
 
 // The matrix of a text, if it gives a logic with two truth values.
 fn matrix(alloc: Global, text: &str) -> Result<Option<Matrix<2>>, AllocError> {
-    match read_spec(alloc, text.as_bytes()) {
-        Ok(spec) if spec.values.len() == 2 => Ok(Some(matrix_of(alloc, &spec)?)),
-        _ => Ok(None),
+    let Ok(spec) = read_spec(alloc, text.as_bytes()) else {
+        return Ok(None);
+    };
+    if spec.values.len() != 2 {
+        return Ok(None);
     }
+    Ok(Some(matrix_of(alloc, &spec)?))
 }
 
-// What is printed of the rules of a text.
-fn printed(alloc: Global, m: &Matrix<2>, text: &[u8]) -> Result<Option<Vec<u8>>, AllocError> {
-    match read_rules(alloc, m, text) {
-        Ok(rules) if have_signs(rules.items()) => Ok(Some(text_of_rules(alloc, m, rules.items())?)),
-        _ => Ok(None),
+// What is printed of some rules, if their signs have members.
+fn printed(alloc: Global, m: &Matrix<2>, rules: &[Rule<2>]) -> Result<Option<Vec<u8>>, AllocError>
+    requires { All (λ rule. Fits m.now (plain_rule rule)) rules.now }
+{
+    if have_signs(rules) && rules.len() < 100 {
+        Ok(Some(text_of_rules(alloc, m, rules)?))
+    } else {
+        Ok(None)
     }
 }
 
 #[test]
 fn reads_back_what_is_printed(rt: HostRuntime) -> Result<(), Fail> {
     let m = matrix(rt.alloc(), QUOTED)?.ok_or("a logic")?;
-    let text = printed(rt.alloc(), &m, RULES)?.ok_or("rules")?;
+    let rules = read_rules(rt.alloc(), &m, RULES)?;
+    let text = printed(rt.alloc(), &m, rules.items())?.ok_or("signs")?;
     assert!(rt; text.as_slice() == RULES);
     Ok(())
 }
