@@ -59,8 +59,8 @@ fn run_words<F: Files, O: Sink, E: Sink>(
 ///
 /// Each status comes with its cause, and all bytes of its answer then stand in one sink: in `out` with
 /// `Done` and `Rejected`, and else in `err`; the other sink is as it was. `WriteFault` comes where a put failed:
-/// that sink then has the first of the bytes, and its count of faults rose. With `Memory` nothing was put. The files are
-/// as they were, unless a read failed: then the status is `ReadFault`, or `WriteFault` or `Memory` where its line wasn't put.
+/// that sink then has the first of the bytes, and its count of faults rose. With `Memory` nothing was put. Under `Done`,
+/// `Usage`, `BadSpec`, `BadInput` and `Rejected` the files are as they were, so none of these passes over a failed read.
 pub fn run_multlog<F: Files, O: Sink, E: Sink>(
     alloc: Global,
     words: &[String],
