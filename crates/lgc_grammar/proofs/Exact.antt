@@ -7,7 +7,7 @@ use Rattle.lgc_grammar.specs.Reading.{Reader, whole}
 use Rattle.lgc_grammar.proofs.Readers.{Reads, Start, whole_complete, whole_broken, whole_answers}
 
 -- of two fronts of the same tokens one goes further by a token at least, or both are the same
-order_of : {T : Type 0} (f g r s : List T) → f ++ r ≡ g ++ s → ((t : T) × (m : List T) × (g ≡ f ++ t ∷ m) × (r ≡ t ∷ m ++ s)) ⊎ (((t : T) × (m : List T) × (f ≡ g ++ t ∷ m) × (s ≡ t ∷ m ++ r)) ⊎ (r ≡ s))
+pub order_of : {T : Type 0} (f g r s : List T) → f ++ r ≡ g ++ s → ((t : T) × (m : List T) × (g ≡ f ++ t ∷ m) × (r ≡ t ∷ m ++ s)) ⊎ (((t : T) × (m : List T) × (f ≡ g ++ t ∷ m) × (s ≡ t ∷ m ++ r)) ⊎ (r ≡ s))
 order_of [] [] r s e = inr (inr e)
 order_of [] (t ∷ g) r s e = inl (t, g, refl, e)
 order_of (t ∷ f) [] r s e = inr (inl (t, f, refl, sym e))

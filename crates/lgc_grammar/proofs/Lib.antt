@@ -7,7 +7,11 @@ pub mod GrowingTrees
 pub mod EndingTurns
 pub mod AllowedTokens
 pub mod RefusedTokens
+pub mod UnlessReads
 pub mod Exact
+pub mod SameReaders
 pub mod BrokenRules
 pub mod Loops
 pub mod Classes
+pub mod SeenTokens
+pub mod AmongOthers

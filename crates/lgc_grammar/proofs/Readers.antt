@@ -268,7 +268,7 @@ module _ {T A : Type 0} {p : Reader T A} {L : Grammar T A} {P : Language T} {sta
       let same : (s.front ++ t ∷ []) ++ more ≡ s.front ++ t ∷ more = append_assoc s.front (t ∷ []) more in
       stops_none (s.front ++ t ∷ more) (t ∷ more) (subst P same h) (s.near (t ∷ more) refl)
 
-  no_way_took : (ts : List T) (b : A) (t : T) (rest : List T) → (k : Took p L ts b (t ∷ rest)) → HasNoWay P k.front (t ∷ rest)
+  pub no_way_took : (ts : List T) (b : A) (t : T) (rest : List T) → (k : Took p L ts b (t ∷ rest)) → HasNoWay P k.front (t ∷ rest)
   no_way_took ts b t rest k = λ (more, h).
       let same : (k.front ++ t ∷ []) ++ more ≡ k.front ++ t ∷ more = append_assoc k.front (t ∷ []) more in
       stops_all (k.front ++ t ∷ more) b t more (subst P same h) (k.near (t ∷ more) refl)
@@ -381,6 +381,10 @@ module _ {T A : Type 0} {p : Reader T A} {L : Grammar T A} {P : Language T} {sta
     some = reads.some;
     example = reads.example;
   }
+
+-- more tokens with which a phrase is taken to begin
+pub must_start : {T A : Type 0} {p : Reader T A} {L : Grammar T A} {P : Language T} {first go : T → Bool} → Reads p L P (Must first) go → (more : T → Bool) → ((t : T) → more t ≡ false → first t ≡ false) → Reads p L P (Must more) go
+must_start {first = first} reads more less = starts_with reads (Must more) (λ ts h. reads.starts ts (next_less first more less ts h))
 
 -- ---- where no token breaks a rule
 

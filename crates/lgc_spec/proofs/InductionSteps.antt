@@ -8,12 +8,12 @@ use Rattle.std.proofs.lemmas.List.Quantifiers.{position-Some}
 use Rattle.lgc_values.specs.declared.TheConstants.{MOST_VALUES, MOST_ROWS}
 use Rattle.lgc_values.specs.Logic.{arguments_at}
 use Rattle.lgc_values.specs.declared.matrix.Operator.{Operator}
+use Rattle.lgc_tokens.specs.Numbers.{number_of}
 use Rattle.lgc_parser.specs.declared.tree.Word.{Word}
 use Rattle.lgc_spec.specs.declared.fault.Law.{Law}
 use Rattle.lgc_spec.specs.declared.fault.Law.TheVariants.{Idempotent, Commutative, Associative}
 use Rattle.lgc_spec.specs.Faults.{fault_at}
 use Rattle.lgc_spec.specs.Words.{text_of}
-use Rattle.lgc_spec.specs.Operators.{number_of}
 use Rattle.lgc_spec.specs.Folds.{HasRows, applied}
 use Rattle.lgc_spec.specs.Inductions.{width, holds, first_broken, semilattice_given, induced_given}
 use Rattle.lgc_spec.proofs.Indices.{power_small}

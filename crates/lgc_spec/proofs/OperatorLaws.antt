@@ -1,31 +1,15 @@
--- Arities and names of operators.
-use Rattle.std.proofs.Common.{◌≡◌, ℕ, ◌+◌, ◌-◌, ◌*◌, ◌<◌, ◌≤◌, Bool, List, [], ◌∷◌, length, map, take, drop, get_or, fold, ◌||◌, cond, Some, None, false, refl, sym, ap, ◌∙◌, arith}
+-- Names of operators.
+use Rattle.std.proofs.Common.{◌≡◌, ℕ, ◌<◌, Bool, List, [], ◌∷◌, length, map, ◌||◌, cond, Some, None, false, refl, sym, ap, ◌∙◌, arith}
 use Rattle.std.specs.Prelude.{nat_le}
 use Rattle.std.specs.Str.{bytes_eq}
 use Rattle.std.specs.List.{list_any}
-use Rattle.std.proofs.lemmas.Grind.{fold-append}
-use Rattle.std.proofs.lemmas.List.{take_more, take-append-drop}
 use Rattle.std.proofs.lemmas.List.{length-map}
 use Rattle.std.proofs.lemmas.Bool.Decides.{nat_tests}
 use Rattle.lgc_values.specs.declared.matrix.Operator.{Operator}
 use Rattle.lgc_parser.specs.declared.tree.Word.{Word}
 use Rattle.lgc_spec.specs.Faults.{fault_at}
 use Rattle.lgc_spec.specs.Words.{text_of, is_among}
-use Rattle.lgc_spec.specs.Operators.{number_of, name_fault}
-
--- digits behind a number don't make it less
-number_grows : (number : ℕ) (digits : List ℕ) → number ≤ fold (λ n d. 10 * n + (d - 48)) number digits
-number_grows number [] = omega arith
-number_grows number (d ∷ digits) = let rest = number_grows (10 * number + (d - 48)) digits in omega arith
-
-pub number_above : (digits : List ℕ) (i arity digit bound : ℕ) → i < length digits → arity ≡ number_of (take i digits) → digit ≡ get_or digits i 0 - 48 → bound < 10 * arity + digit → bound < number_of digits
-number_above digits i arity digit bound lt so_far is above =
-    let next : number_of (take (i + 1) digits) ≡ 10 * number_of (take i digits) + (get_or digits i 0 - 48) =
-    rw (take_more digits i 0 lt) (fold-append (λ n d. 10 * n + (d - 48)) 0 (take i digits) (get_or digits i 0 ∷ [])) in
-    let whole : number_of digits ≡ fold (λ n d. 10 * n + (d - 48)) (number_of (take (i + 1) digits)) (drop (i + 1) digits) =
-    sym (ap number_of (take-append-drop (i + 1) digits)) ∙ fold-append (λ n d. 10 * n + (d - 48)) 0 (take (i + 1) digits) (drop (i + 1) digits) in
-    let grown = number_grows (number_of (take (i + 1) digits)) (drop (i + 1) digits) in
-    omega arith
+use Rattle.lgc_spec.specs.Operators.{name_fault}
 
 pub any_map : {X : Type 0} (text : X → List ℕ) (name : List ℕ) (xs : List X) → is_among (map text xs) name ≡ list_any (λ x. bytes_eq (text x) name) xs
 any_map text name [] = refl

@@ -11,6 +11,7 @@ use Rattle.std.proofs.lemmas.Grind.{get_or_default_zero}
 use Rattle.lgc_values.specs.declared.TheConstants.{MOST_ARGUMENTS, MOST_ROWS}
 use Rattle.lgc_values.specs.declared.matrix.Operator as lgc
 use Rattle.lgc_values.specs.Logic.{IsOperator, IsPlainName}
+use Rattle.lgc_tokens.specs.Numbers.{number_of}
 use Rattle.lgc_parser.specs.declared.tree.Word.{Word}
 use Rattle.lgc_parser.specs.declared.tree.Row.{Row}
 use Rattle.lgc_parser.specs.declared.tree.Statement.{Statement}
@@ -26,7 +27,7 @@ use Rattle.lgc_spec.specs.Bounds.{IsBound, BoundsGive, BoundGives, not_binary, f
 use Rattle.lgc_spec.specs.Orderings.{Ordered}
 use Rattle.lgc_orders.specs.Order.{Leads}
 use Rattle.lgc_spec.specs.Folds.{HasRows}
-use Rattle.lgc_spec.specs.Operators.{number_of, too_wide, name_fault, arity_given, head_given, BodyGives, OperatorGives, OperatorsGive, operator_in}
+use Rattle.lgc_spec.specs.Operators.{too_wide, name_fault, arity_given, head_given, BodyGives, OperatorGives, OperatorsGive, operator_in}
 use Rattle.lgc_spec.proofs.OneInTurn.{parts_are}
 
 -- ---- steps that have no fault

@@ -5,6 +5,7 @@ use Rattle.std.specs.Str.{bytes_eq}
 use Rattle.std.specs.List.{range_with_len}
 use Rattle.lgc_values.specs.Logic.{arguments_at}
 use Rattle.lgc_values.specs.declared.matrix.Operator.{Operator}
+use Rattle.lgc_tokens.specs.Numbers.{number_of}
 use Rattle.lgc_parser.specs.declared.tree.Word.{Word}
 use Rattle.lgc_spec.specs.declared.fault.Law.{Law}
 use Rattle.lgc_spec.specs.declared.fault.Law.TheVariants.{Idempotent, Commutative, Associative}
@@ -14,7 +15,6 @@ use Rattle.lgc_spec.specs.declared.fault.SpecFault.TheVariants.{Fault}
 use Rattle.lgc_spec.specs.declared.fault.TheConstants.{UNKNOWN_OPERATOR, NOT_SEMILATTICE}
 use Rattle.lgc_spec.specs.Faults.{fault_at, unless, ◌>>=◌}
 use Rattle.lgc_spec.specs.Words.{text_of, names_of}
-use Rattle.lgc_spec.specs.Operators.{number_of}
 use Rattle.lgc_spec.specs.Sets.{table_over}
 use Rattle.lgc_spec.specs.Folds.{applied, folded}
 

@@ -1,8 +1,9 @@
 -- Operators.
-use Rattle.std.specs.Prelude.{◌≡◌, ℕ, ◌+◌, ◌-◌, ◌*◌, ◌^◌, ◌&&◌, nat_le, List, map, fold, filter_map, length, Option, Some, None, Result, Ok, if◌then◌else◌}
+use Rattle.std.specs.Prelude.{◌≡◌, ℕ, ◌^◌, ◌&&◌, nat_le, List, map, filter_map, length, Option, Some, None, Result, Ok, if◌then◌else◌}
 use Rattle.std.specs.Option.{option_or}
 use Rattle.lgc_values.specs.declared.TheConstants.{MOST_ARGUMENTS, MOST_ROWS}
 use Rattle.lgc_values.specs.declared.matrix.Operator as lgc
+use Rattle.lgc_tokens.specs.Numbers.{number_of}
 use Rattle.lgc_parser.specs.declared.tree.Word.{Word}
 use Rattle.lgc_parser.specs.declared.tree.OpBody.{OpBody}
 use Rattle.lgc_parser.specs.declared.tree.OpBody.TheVariants.{Mapping, Table, Bound}
@@ -27,10 +28,6 @@ operator_in _ = None
 -- as many operators stand before it as a file may have: at its name
 abbrev pub one_too_many : List (List ℕ) → Word → Option SpecFault
 one_too_many earlier name = if nat_le MOST_OPERATORS (length earlier) then Some (fault_at TOO_MANY_SYMBOLS name.at) else None
-
--- the number that digits write
-abbrev pub number_of : List ℕ → ℕ
-number_of digits = fold (λ number digit. 10 * number + (digit - 48)) 0 digits
 
 -- there are too many arguments, or too many rows for n values: at the arity
 abbrev pub too_wide : ℕ → ℕ → Word → Option SpecFault

@@ -3,9 +3,9 @@ ghost use Rattle.std.specs.Prelude.{◌≡◌, ◌==◌, ◌&&◌, ◌<◌, ◌�
 ghost use Rattle.std.specs.Str.{bytes_eq};
 ghost use Rattle.lgc_values.specs.declared.TheConstants.{MOST_VALUES};
 ghost use Rattle.lgc_values.specs.Logic.{arguments_at};
+ghost use Rattle.lgc_tokens.specs.Numbers.{number_of};
 ghost use Rattle.lgc_spec.specs.Faults.{Gives, Passes};
 ghost use Rattle.lgc_spec.specs.Words.{LiesIn, text_of};
-ghost use Rattle.lgc_spec.specs.Operators.{number_of};
 ghost use Rattle.lgc_spec.specs.Folds.{HasRows, applied};
 ghost use Rattle.lgc_spec.specs.Inductions.{width, holds, first_broken, broken, not_semilattice, semilattice_given, induced_given};
 

@@ -3,12 +3,13 @@ ghost use Rattle.std.specs.Prelude.{◌≡◌, ◌<◌, ◌≤◌, ◌^◌, List
 ghost use Rattle.std.specs.Str.{bytes_eq};
 ghost use Rattle.std.specs.List.{list_any};
 ghost use Rattle.lgc_values.specs.declared.TheConstants.{MOST_VALUES, MOST_ARGUMENTS, MOST_ROWS};
+ghost use Rattle.lgc_tokens.specs.Numbers.{number_of};
 ghost use Rattle.lgc_parser.specs.TreeWords.{OpBodyHas, StatementHas};
 ghost use Rattle.lgc_spec.specs.Faults.{Gives, Passes, Answers};
 ghost use Rattle.lgc_spec.specs.Words.{LiesIn, text_of};
 ghost use Rattle.lgc_spec.specs.Orderings.{Ordered};
 ghost use Rattle.lgc_spec.specs.KeptOrders.{AreKept};
-ghost use Rattle.lgc_spec.specs.Operators.{number_of, arity_given, name_fault, BodyGives, OperatorGives, OperatorsGive};
+ghost use Rattle.lgc_spec.specs.Operators.{arity_given, name_fault, BodyGives, OperatorGives, OperatorsGive};
 
 use crate::bounds::bound_given;
 use crate::fault::{ARITY_TOO_LARGE, DUPLICATE_NAME, SpecFault, TOO_MANY_SYMBOLS, fault_at};

@@ -4,3 +4,4 @@ pub mod Stops
 pub mod LowerWords
 pub mod NumberTokens
 pub mod Places
+pub mod Loops

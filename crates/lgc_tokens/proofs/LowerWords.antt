@@ -26,4 +26,8 @@ word_is_lower text =
     (choose (bytes_eq text (codes "rule")) _ _ refl
     (choose (bytes_eq text (codes "at")) _ _ refl
     (choose (bytes_eq text (codes "all")) _ _ refl
-    (choose (bytes_eq text (codes "some")) _ _ refl refl))))))))))))))
+    (choose (bytes_eq text (codes "some")) _ _ refl
+    (choose (bytes_eq text (codes "entail")) _ _ refl
+    (choose (bytes_eq text (codes "mixed")) _ _ refl
+    (choose (bytes_eq text (codes "equation")) _ _ refl
+    (choose (bytes_eq text (codes "quasi")) _ _ refl refl))))))))))))))))))

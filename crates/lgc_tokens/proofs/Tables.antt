@@ -10,10 +10,10 @@ use Rattle.lgc_grammar.proofs.Classes.{IsTable, entry, all_pass, apart}
 use Rattle.lgc_lexer.specs.declared.token.Kind.{Kind}
 use Rattle.lgc_lexer.specs.declared.token.Kind.TheVariants as kind
 use Rattle.lgc_tokens.specs.declared.class.Class.{Class}
-use Rattle.lgc_tokens.specs.declared.class.Class.TheVariants.{LogicWord, ValuesWord, DesignatedWord, OrderingWord, OperatorWord, QuantifierWord, MappingWord, TableWord, InducedWord, InfWord, SupWord, RuleWord, AtWord, AllWord, SomeWord, Lower, Upper, Zero, CaretZero, Number, Digits, Mixed, Quoted, Text, Less, Caret, Symbol, OpenRound, CloseRound, OpenBrace, CloseBrace, OpenSquare, CloseSquare, Comma, Dot, Colon, Semicolon, Slash, Punct}
+use Rattle.lgc_tokens.specs.declared.class.Class.TheVariants.{LogicWord, ValuesWord, DesignatedWord, OrderingWord, OperatorWord, QuantifierWord, MappingWord, TableWord, InducedWord, InfWord, SupWord, RuleWord, AtWord, AllWord, SomeWord, EntailWord, MixedWord, EquationWord, QuasiWord, Lower, Upper, Zero, CaretZero, Number, LongNumber, Digits, Mixed, Quoted, Text, Less, Caret, Turnstile, Equals, Hash, Symbol, OpenRound, CloseRound, OpenBrace, CloseBrace, OpenSquare, CloseSquare, Comma, Dot, Colon, Semicolon, Slash, Punct}
 use Rattle.lgc_tokens.specs.declared.terminal.Terminal.{Terminal}
 use Rattle.lgc_tokens.specs.declared.terminal.Terminal.TheVariants as terminal
-use Rattle.lgc_tokens.specs.Numbers.{number_in}
+use Rattle.lgc_tokens.specs.Numbers.{number_in, long_number_in}
 use Rattle.lgc_tokens.specs.Spelled.{Spelled}
 use Rattle.lgc_tokens.specs.Classes.{classes, place, same, class_of, class_of_word, class_of_punct, passes, is, is_a}
 
@@ -48,17 +48,25 @@ token RuleWord = spelt kind.Lower (codes "rule")
 token AtWord = spelt kind.Lower (codes "at")
 token AllWord = spelt kind.Lower (codes "all")
 token SomeWord = spelt kind.Lower (codes "some")
+token EntailWord = spelt kind.Lower (codes "entail")
+token MixedWord = spelt kind.Lower (codes "mixed")
+token EquationWord = spelt kind.Lower (codes "equation")
+token QuasiWord = spelt kind.Lower (codes "quasi")
 token Lower = spelt kind.Lower (codes "x")
 token Upper = spelt kind.Upper (codes "X")
 token Zero = spelt kind.Digits (codes "0")
 token CaretZero = record (spelt kind.Digits (codes "0")) { before_caret = true }
 token Number = spelt kind.Digits (codes "1")
+token LongNumber = spelt kind.Digits (codes "4294967296")
 token Digits = spelt kind.Digits (codes "00")
 token Mixed = spelt kind.Digits (codes "1x")
 token Quoted = spelt kind.Quoted (codes "x")
 token Text = spelt kind.Text []
 token Less = spelt kind.Symbol (codes "<")
 token Caret = spelt kind.Symbol (codes "^")
+token Turnstile = spelt kind.Symbol (codes "|-")
+token Equals = spelt kind.Symbol (codes "=")
+token Hash = spelt kind.Symbol (codes "#")
 token Symbol = spelt kind.Symbol (codes "+")
 token OpenRound = spelt kind.Punct (codes "(")
 token CloseRound = spelt kind.Punct (codes ")")
@@ -74,7 +82,7 @@ token Slash = spelt kind.Punct (codes "/")
 token Punct = spelt kind.Punct (codes "-")
 
 is_of_class : (c : Class) → class_of (token c) ≡ c
-unfolding class_of class_of_word class_of_punct number_in
+unfolding class_of class_of_word class_of_punct number_in long_number_in
 is_of_class LogicWord = refl
 is_of_class c = refl
 
@@ -84,12 +92,14 @@ sample (terminal.Only c) = c
 sample terminal.LogicName = Text
 sample terminal.DigitsAlone = Number
 sample terminal.Number = Number
+sample terminal.LongNumber = Number
 sample terminal.Argument = Number
 sample terminal.Zero = Zero
 sample terminal.Bound = InfWord
 sample terminal.QuantifierClause = AllWord
 sample terminal.BracketedStart = OpenBrace
 sample terminal.StatementStart = LogicWord
+sample terminal.QueryStart = EntailWord
 sample _ = Lower
 
 sample_passes : (t : Terminal) → passes t (sample t) ≡ true
@@ -101,12 +111,16 @@ sample_passes (terminal.Only c) = by c
 sample_passes terminal.Name = refl
 sample_passes t = refl
 
-some_passes : (t : Terminal) → is_a t (token (sample t)) ≡ true
-some_passes t = ap (passes t) (is_of_class (sample t)) ∙ sample_passes t
+-- a token of each terminal
+abbrev pub example : Terminal → Spelled
+example t = token (sample t)
+
+pub example_passes : (t : Terminal) → is_a t (example t) ≡ true
+example_passes t = ap (passes t) (is_of_class (sample t)) ∙ sample_passes t
 
 -- one token of a terminal
 pub one_of : (t : Terminal) → ReadsAll (one_at (is_a t)) (One (is_a t)) (Must (is_a t)) never
-one_of t = one_reads (is_a t) (token (sample t)) (some_passes t)
+one_of t = one_reads (is_a t) (example t) (example_passes t)
 
 -- one token of a class
 pub one : (c : Class) → ReadsAll (one_at (is c)) (One (is c)) (Must (is c)) never
@@ -114,4 +128,4 @@ one c = one_of (terminal.Only c)
 
 -- one token of a terminal that may break a rule
 pub allowed : (t : Terminal) (fault : Spelled → Option ℕ) → Reads (allowed_at (is_a t) fault) (Allowed (is_a t) fault) (PlainOne (is_a t)) (Must (is_a t)) never
-allowed t fault = allowed_reads (is_a t) fault (token (sample t)) (some_passes t)
+allowed t fault = allowed_reads (is_a t) fault (example t) (example_passes t)

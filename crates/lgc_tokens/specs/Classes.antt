@@ -1,20 +1,20 @@
 -- What a token is to the grammars.
-use Rattle.std.specs.Prelude.{codes, ℕ, Bool, true, false, not, ◌&&◌, ◌||◌, ◌==◌, List, [], ◌∷◌, Option, Some, None, if◌then◌else◌}
+use Rattle.std.specs.Prelude.{codes, ℕ, Bool, true, false, not, ◌&&◌, ◌||◌, ◌==◌, List, [], ◌∷◌, Option, Some, None, is_some, if◌then◌else◌}
 use Rattle.std.specs.Str.{bytes_eq}
 use Rattle.std.specs.List.{list_all}
 use Rattle.std.specs.Char.{is_ascii_digit}
 use Rattle.lgc_lexer.specs.declared.token.Kind.{Kind}
 use Rattle.lgc_lexer.specs.declared.token.Kind.TheVariants as kind
 use Rattle.lgc_tokens.specs.declared.class.Class.{Class}
-use Rattle.lgc_tokens.specs.declared.class.Class.TheVariants.{LogicWord, ValuesWord, DesignatedWord, OrderingWord, OperatorWord, QuantifierWord, MappingWord, TableWord, InducedWord, InfWord, SupWord, RuleWord, AtWord, AllWord, SomeWord, Lower, Upper, Zero, CaretZero, Number, Digits, Mixed, Quoted, Text, Less, Caret, Symbol, OpenRound, CloseRound, OpenBrace, CloseBrace, OpenSquare, CloseSquare, Comma, Dot, Colon, Semicolon, Slash, Punct}
+use Rattle.lgc_tokens.specs.declared.class.Class.TheVariants.{LogicWord, ValuesWord, DesignatedWord, OrderingWord, OperatorWord, QuantifierWord, MappingWord, TableWord, InducedWord, InfWord, SupWord, RuleWord, AtWord, AllWord, SomeWord, EntailWord, MixedWord, EquationWord, QuasiWord, Lower, Upper, Zero, CaretZero, Number, LongNumber, Digits, Mixed, Quoted, Text, Less, Caret, Turnstile, Equals, Hash, Symbol, OpenRound, CloseRound, OpenBrace, CloseBrace, OpenSquare, CloseSquare, Comma, Dot, Colon, Semicolon, Slash, Punct}
 use Rattle.lgc_tokens.specs.declared.terminal.Terminal.{Terminal}
 use Rattle.lgc_tokens.specs.declared.terminal.Terminal.TheVariants as terminal
-use Rattle.lgc_tokens.specs.Numbers.{number_in}
+use Rattle.lgc_tokens.specs.Numbers.{number_in, long_number_in}
 use Rattle.lgc_tokens.specs.Spelled.{Spelled}
 
 -- all classes
 abbrev pub classes : List Class
-classes = LogicWord ∷ ValuesWord ∷ DesignatedWord ∷ OrderingWord ∷ OperatorWord ∷ QuantifierWord ∷ MappingWord ∷ TableWord ∷ InducedWord ∷ InfWord ∷ SupWord ∷ RuleWord ∷ AtWord ∷ AllWord ∷ SomeWord ∷ Lower ∷ Upper ∷ Zero ∷ CaretZero ∷ Number ∷ Digits ∷ Mixed ∷ Quoted ∷ Text ∷ Less ∷ Caret ∷ Symbol ∷ OpenRound ∷ CloseRound ∷ OpenBrace ∷ CloseBrace ∷ OpenSquare ∷ CloseSquare ∷ Comma ∷ Dot ∷ Colon ∷ Semicolon ∷ Slash ∷ Punct ∷ []
+classes = LogicWord ∷ ValuesWord ∷ DesignatedWord ∷ OrderingWord ∷ OperatorWord ∷ QuantifierWord ∷ MappingWord ∷ TableWord ∷ InducedWord ∷ InfWord ∷ SupWord ∷ RuleWord ∷ AtWord ∷ AllWord ∷ SomeWord ∷ EntailWord ∷ MixedWord ∷ EquationWord ∷ QuasiWord ∷ Lower ∷ Upper ∷ Zero ∷ CaretZero ∷ Number ∷ LongNumber ∷ Digits ∷ Mixed ∷ Quoted ∷ Text ∷ Less ∷ Caret ∷ Turnstile ∷ Equals ∷ Hash ∷ Symbol ∷ OpenRound ∷ CloseRound ∷ OpenBrace ∷ CloseBrace ∷ OpenSquare ∷ CloseSquare ∷ Comma ∷ Dot ∷ Colon ∷ Semicolon ∷ Slash ∷ Punct ∷ []
 
 -- the place of a class among them
 abbrev pub place : Class → ℕ
@@ -33,30 +33,38 @@ place RuleWord = 11
 place AtWord = 12
 place AllWord = 13
 place SomeWord = 14
-place Lower = 15
-place Upper = 16
-place Zero = 17
-place CaretZero = 18
-place Number = 19
-place Digits = 20
-place Mixed = 21
-place Quoted = 22
-place Text = 23
-place Less = 24
-place Caret = 25
-place Symbol = 26
-place OpenRound = 27
-place CloseRound = 28
-place OpenBrace = 29
-place CloseBrace = 30
-place OpenSquare = 31
-place CloseSquare = 32
-place Comma = 33
-place Dot = 34
-place Colon = 35
-place Semicolon = 36
-place Slash = 37
-place Punct = 38
+place EntailWord = 15
+place MixedWord = 16
+place EquationWord = 17
+place QuasiWord = 18
+place Lower = 19
+place Upper = 20
+place Zero = 21
+place CaretZero = 22
+place Number = 23
+place LongNumber = 24
+place Digits = 25
+place Mixed = 26
+place Quoted = 27
+place Text = 28
+place Less = 29
+place Caret = 30
+place Turnstile = 31
+place Equals = 32
+place Hash = 33
+place Symbol = 34
+place OpenRound = 35
+place CloseRound = 36
+place OpenBrace = 37
+place CloseBrace = 38
+place OpenSquare = 39
+place CloseSquare = 40
+place Comma = 41
+place Dot = 42
+place Colon = 43
+place Semicolon = 44
+place Slash = 45
+place Punct = 46
 
 abbrev pub same : Class → Class → Bool
 same c d = place c == place d
@@ -79,16 +87,20 @@ class_of_word text =
     else (if bytes_eq text (codes "at") then AtWord
     else (if bytes_eq text (codes "all") then AllWord
     else (if bytes_eq text (codes "some") then SomeWord
-    else Lower))))))))))))))
+    else (if bytes_eq text (codes "entail") then EntailWord
+    else (if bytes_eq text (codes "mixed") then MixedWord
+    else (if bytes_eq text (codes "equation") then EquationWord
+    else (if bytes_eq text (codes "quasi") then QuasiWord
+    else Lower))))))))))))))))))
 
 -- a number: 0 without or with a Symbol ^ behind it, or another one
 abbrev pub class_of_number : ℕ → Bool → Class
 class_of_number n before_caret = if n == 0 then (if before_caret then CaretZero else Zero) else Number
 
--- a Digits without a number: of digits alone, or not
+-- a Digits: with a number, with a long number, of other digits alone, or none of these
 abbrev pub class_of_numeral : Option ℕ → List ℕ → Bool → Class
 class_of_numeral (Some n) text before_caret = class_of_number n before_caret
-class_of_numeral None text before_caret = if list_all is_ascii_digit text then Digits else Mixed
+class_of_numeral None text before_caret = if is_some (long_number_in text) then LongNumber else (if list_all is_ascii_digit text then Digits else Mixed)
 
 -- a Digits
 abbrev pub class_of_digits : List ℕ → Bool → Class
@@ -98,7 +110,10 @@ abbrev pub class_of_symbol : List ℕ → Class
 class_of_symbol text =
     if bytes_eq text (codes "<") then Less
     else (if bytes_eq text (codes "^") then Caret
-    else Symbol)
+    else (if bytes_eq text (codes "|-") then Turnstile
+    else (if bytes_eq text (codes "=") then Equals
+    else (if bytes_eq text (codes "#") then Hash
+    else Symbol))))
 
 unfoldable pub class_of_punct : List ℕ → Class
 class_of_punct text =
@@ -147,6 +162,10 @@ is_lower RuleWord = true
 is_lower AtWord = true
 is_lower AllWord = true
 is_lower SomeWord = true
+is_lower EntailWord = true
+is_lower MixedWord = true
+is_lower EquationWord = true
+is_lower QuasiWord = true
 is_lower Lower = true
 is_lower _ = false
 
@@ -156,7 +175,7 @@ names c = is_lower c || same Quoted c
 
 -- Lower | Quoted | Symbol
 abbrev pub names_or_symbols : Class → Bool
-names_or_symbols c = names c || (same Less c || (same Caret c || same Symbol c))
+names_or_symbols c = names c || (same Less c || (same Caret c || (same Turnstile c || (same Equals c || (same Hash c || same Symbol c)))))
 
 -- a number with which a clause's first literal begins: a 0 has a Symbol ^ behind it
 abbrev pub arguments : Class → Bool
@@ -166,13 +185,17 @@ arguments c = same CaretZero c || same Number c
 abbrev pub numbers : Class → Bool
 numbers c = same Zero c || arguments c
 
+-- the number of a line or of a let
+abbrev pub long_numbers : Class → Bool
+long_numbers c = numbers c || same LongNumber c
+
 -- the number 0
 abbrev pub zeros : Class → Bool
 zeros c = same Zero c || same CaretZero c
 
 -- a Digits of digits alone
 abbrev pub digits_alone : Class → Bool
-digits_alone c = numbers c || same Digits c
+digits_alone c = long_numbers c || same Digits c
 
 -- Lower | Upper | Digits | Quoted | Symbol
 abbrev pub values : Class → Bool
@@ -212,11 +235,21 @@ begins_cell c = same Comma c || values c
 abbrev pub begins_statement : Class → Bool
 begins_statement c = same LogicWord c || (same ValuesWord c || (same DesignatedWord c || (same OrderingWord c || (same OperatorWord c || same QuantifierWord c))))
 
+-- ---- what begins what in formulas and queries
+
+-- a term
+abbrev pub begins_term : Class → Bool
+begins_term c = same Upper c || is_lower c
+
+abbrev pub begins_query : Class → Bool
+begins_query c = same EntailWord c || (same MixedWord c || (same EquationWord c || same QuasiWord c))
+
 -- ---- tests of tokens
 
 -- the classes of a terminal
 abbrev pub passes : Terminal → Class → Bool
 passes (terminal.Only c) d = same c d
+passes terminal.Word d = is_lower d
 passes terminal.Name d = names d
 passes terminal.NameOrSymbol d = names_or_symbols d
 passes terminal.Value d = values d
@@ -224,6 +257,7 @@ passes terminal.OrderValue d = order_values d
 passes terminal.LogicName d = logic_names d
 passes terminal.DigitsAlone d = digits_alone d
 passes terminal.Number d = numbers d
+passes terminal.LongNumber d = long_numbers d
 passes terminal.Argument d = arguments d
 passes terminal.Zero d = zeros d
 passes terminal.Bound d = bounds d
@@ -233,6 +267,8 @@ passes terminal.BracketedStart d = begins_bracketed d
 passes terminal.RowStart d = begins_row d
 passes terminal.CellStart d = begins_cell d
 passes terminal.StatementStart d = begins_statement d
+passes terminal.TermStart d = begins_term d
+passes terminal.QueryStart d = begins_query d
 
 -- the token is one of the terminal
 abbrev pub is_a : Terminal → Spelled → Bool
@@ -240,6 +276,10 @@ is_a t x = passes t (class_of x)
 
 abbrev pub is : Class → Spelled → Bool
 is c x = same c (class_of x)
+
+-- a Lower
+abbrev pub is_word : Spelled → Bool
+is_word x = is_lower (class_of x)
 
 abbrev pub is_name : Spelled → Bool
 is_name x = names (class_of x)
@@ -261,6 +301,9 @@ is_digits_alone x = digits_alone (class_of x)
 
 abbrev pub is_number : Spelled → Bool
 is_number x = numbers (class_of x)
+
+abbrev pub is_long_number : Spelled → Bool
+is_long_number x = long_numbers (class_of x)
 
 abbrev pub is_argument : Spelled → Bool
 is_argument x = arguments (class_of x)
@@ -289,6 +332,12 @@ starts_cell x = begins_cell (class_of x)
 
 abbrev pub starts_statement : Spelled → Bool
 starts_statement x = begins_statement (class_of x)
+
+abbrev pub starts_term : Spelled → Bool
+starts_term x = begins_term (class_of x)
+
+abbrev pub starts_query : Spelled → Bool
+starts_query x = begins_query (class_of x)
 
 -- only numbers are of the terminal
 abbrev pub AsksForNumber : Terminal → Type 0

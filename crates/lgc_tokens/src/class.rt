@@ -4,7 +4,7 @@ ghost use Rattle.lgc_lexer.specs.Spans.{LiesIn, AllIn};
 ghost use Rattle.lgc_tokens.specs.Spelled.{spelled, is_caret, begins_with_caret};
 ghost use Rattle.lgc_tokens.specs.Classes.{class_of, class_of_word, class_of_number, class_of_digits, class_of_symbol, class_of_punct, same, is_lower};
 
-use crate::number::{are_digits, number_in};
+use crate::number::{are_digits, long_number_in, number_in};
 use lgc_lexer::{Kind, Token, content};
 
 /// The tokens that the grammars tell apart.
@@ -25,6 +25,10 @@ pub enum Class {
     AtWord,
     AllWord,
     SomeWord,
+    EntailWord,
+    MixedWord,
+    EquationWord,
+    QuasiWord,
     /// A Lower that is no keyword.
     Lower,
     Upper,
@@ -34,7 +38,9 @@ pub enum Class {
     CaretZero,
     /// Another number.
     Number,
-    /// A Digits of digits alone that is no number: with a leading zero, or too large.
+    /// A number of a line or of a let that is too large for another number.
+    LongNumber,
+    /// A Digits of digits alone that is no number of either kind: with a leading zero, or too large.
     Digits,
     /// A Digits with a letter or `_`.
     Mixed,
@@ -44,6 +50,12 @@ pub enum Class {
     Less,
     /// The Symbol `^`.
     Caret,
+    /// The Symbol `|-`.
+    Turnstile,
+    /// The Symbol `=`.
+    Equals,
+    /// The Symbol `#`.
+    Hash,
     /// Another Symbol.
     Symbol,
     OpenRound,
@@ -88,6 +100,10 @@ pub(crate) fn is_lower(class: Class) -> bool
             | Class::AtWord
             | Class::AllWord
             | Class::SomeWord
+            | Class::EntailWord
+            | Class::MixedWord
+            | Class::EquationWord
+            | Class::QuasiWord
             | Class::Lower
     )
 }
@@ -126,6 +142,14 @@ fn class_of_word(text: &[u8]) -> Class
         Class::AllWord
     } else if text == b"some".as_slice() {
         Class::SomeWord
+    } else if text == b"entail".as_slice() {
+        Class::EntailWord
+    } else if text == b"mixed".as_slice() {
+        Class::MixedWord
+    } else if text == b"equation".as_slice() {
+        Class::EquationWord
+    } else if text == b"quasi".as_slice() {
+        Class::QuasiWord
     } else {
         Class::Lower
     }
@@ -169,6 +193,12 @@ fn class_of_symbol(text: &[u8]) -> Class
         Class::Less
     } else if text == b"^".as_slice() {
         Class::Caret
+    } else if text == b"|-".as_slice() {
+        Class::Turnstile
+    } else if text == b"=".as_slice() {
+        Class::Equals
+    } else if text == b"#".as_slice() {
+        Class::Hash
     } else {
         Class::Symbol
     }
@@ -189,6 +219,7 @@ fn class_of_digits(text: &[u8], before_caret: bool) -> Class
 {
     match number_in(text) {
         Some(number) => class_of_number(number, before_caret),
+        None if long_number_in(text).is_some() => Class::LongNumber,
         None if are_digits(text) => Class::Digits,
         None => Class::Mixed,
     }

@@ -3,7 +3,7 @@ ghost use Rattle.std.specs.Prelude.{◌≡◌, ◌≤◌, ◌<◌, ◌^◌, leng
 ghost use Rattle.lgc_grammar.specs.Reading.{one_at, next_is, skip, past};
 ghost use Rattle.lgc_lexer.specs.Spans.{LiesIn, AllIn};
 ghost use Rattle.lgc_tokens.specs.Spelled.{spelled, spelled_all, place, IsRest, IsShorter};
-ghost use Rattle.lgc_tokens.specs.Classes.{passes, is_a, names, names_or_symbols, values, order_values, logic_names, digits_alone, numbers, arguments, zeros, quantifier_clauses, begins_statement};
+ghost use Rattle.lgc_tokens.specs.Classes.{passes, is_a, names, names_or_symbols, values, order_values, logic_names, digits_alone, numbers, long_numbers, arguments, zeros, quantifier_clauses, begins_statement, begins_query};
 ghost use Rattle.lgc_tokens.specs.Gives.{Gives};
 
 use crate::class::{Class, class_of, is_lower, same};
@@ -17,6 +17,8 @@ pub type Reading<'a, T> = Result<(T, &'a [Token]), Stop<'a>>;
 #[derive(Clone, Copy, Debug, PartialEq, Eq)]
 pub enum Terminal {
     Only(Class),
+    /// A Lower, which may be a keyword of some text.
+    Word,
     Name,
     NameOrSymbol,
     Value,
@@ -27,6 +29,8 @@ pub enum Terminal {
     /// A Digits of digits alone.
     DigitsAlone,
     Number,
+    /// The number of a line or of a let, which may be larger than another number.
+    LongNumber,
     /// A number with which the first literal of a clause begins: a 0 has a Symbol `^` behind it.
     Argument,
     /// The number 0.
@@ -41,6 +45,9 @@ pub enum Terminal {
     /// What begins a further cell: the comma before it, or a value.
     CellStart,
     StatementStart,
+    TermStart,
+    /// The keyword with which a query begins.
+    QueryStart,
 }
 
 fn names(class: Class) -> bool
@@ -55,6 +62,9 @@ fn names_or_symbols(class: Class) -> bool
     names(class)
         || same(Class::Less, class)
         || same(Class::Caret, class)
+        || same(Class::Turnstile, class)
+        || same(Class::Equals, class)
+        || same(Class::Hash, class)
         || same(Class::Symbol, class)
 }
 
@@ -70,6 +80,12 @@ fn numbers(class: Class) -> bool
     same(Class::Zero, class) || arguments(class)
 }
 
+fn long_numbers(class: Class) -> bool
+    ensures { result ≡ long_numbers class }
+{
+    numbers(class) || same(Class::LongNumber, class)
+}
+
 fn zeros(class: Class) -> bool
     ensures { result ≡ zeros class }
 {
@@ -79,7 +95,7 @@ fn zeros(class: Class) -> bool
 fn digits_alone(class: Class) -> bool
     ensures { result ≡ digits_alone class }
 {
-    numbers(class) || same(Class::Digits, class)
+    long_numbers(class) || same(Class::Digits, class)
 }
 
 fn values(class: Class) -> bool
@@ -123,11 +139,21 @@ fn begins_statement(class: Class) -> bool
         || same(Class::QuantifierWord, class)
 }
 
+fn begins_query(class: Class) -> bool
+    ensures { result ≡ begins_query class }
+{
+    same(Class::EntailWord, class)
+        || same(Class::MixedWord, class)
+        || same(Class::EquationWord, class)
+        || same(Class::QuasiWord, class)
+}
+
 fn passes(terminal: Terminal, class: Class) -> bool
     ensures { result ≡ passes terminal class }
 {
     match terminal {
         Terminal::Only(only) => same(only, class),
+        Terminal::Word => is_lower(class),
         Terminal::Name => names(class),
         Terminal::NameOrSymbol => names_or_symbols(class),
         Terminal::Value => values(class),
@@ -135,6 +161,7 @@ fn passes(terminal: Terminal, class: Class) -> bool
         Terminal::LogicName => logic_names(class),
         Terminal::DigitsAlone => digits_alone(class),
         Terminal::Number => numbers(class),
+        Terminal::LongNumber => long_numbers(class),
         Terminal::Argument => arguments(class),
         Terminal::Zero => zeros(class),
         Terminal::Bound => same(Class::InfWord, class) || same(Class::SupWord, class),
@@ -144,6 +171,8 @@ fn passes(terminal: Terminal, class: Class) -> bool
         Terminal::RowStart => same(Class::OpenRound, class) || values(class),
         Terminal::CellStart => same(Class::Comma, class) || values(class),
         Terminal::StatementStart => begins_statement(class),
+        Terminal::TermStart => same(Class::Upper, class) || is_lower(class),
+        Terminal::QueryStart => begins_query(class),
     }
 }
 

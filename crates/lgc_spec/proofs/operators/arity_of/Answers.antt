@@ -1,4 +1,4 @@
-use Rattle.lgc_spec.proofs.OperatorLaws.{number_above}
+use Rattle.lgc_tokens.proofs.NumberLaws.{number_above}
 use Rattle.lgc_spec.proofs.operators.arity_of.Goals as goal
 
 pub returns-then-arity-gt-MOST_ARGUMENTS : goal.returns-then-arity-gt-MOST_ARGUMENTS

@@ -1,5 +1,5 @@
 use Rattle.std.proofs.Common.{◌≡◌, ◌≤◌, take}
-use Rattle.lgc_spec.specs.Operators.{number_of}
+use Rattle.lgc_tokens.specs.Numbers.{number_of}
 use Rattle.lgc_spec.proofs.operators.arity_of.Given as goal
 
 abbrev pub invariant-loop-digit : goal.invariant-loop-digit

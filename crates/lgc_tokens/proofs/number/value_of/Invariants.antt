@@ -5,5 +5,5 @@ use Rattle.lgc_tokens.proofs.number.value_of.Given as goal
 abbrev pub invariant-loop-digit : goal.invariant-loop-digit
 invariant-loop-digit l = record {
   so_far : l.number ≡ number_of (take l.digit-index l.digits);
-  small : l.number ≤ 4294967295;
+  small : l.number ≤ l.most;
 }
