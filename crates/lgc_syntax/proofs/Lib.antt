@@ -1,0 +1,11 @@
+pub mod Folds
+pub mod Injective
+pub mod Induction
+pub mod Lists
+pub mod EqualityLaws
+pub mod VariableLaws
+pub mod SizeLaws
+pub mod FitsLaws
+pub mod SubstitutionLaws
+pub mod ValueLaws
+pub mod StructureLaws
