@@ -1,5 +1,5 @@
 -- The classes of printed words: each passes the test that the grammar asks of it.
-use Rattle.std.proofs.Common.{◌≡◌, ℕ, ◌^◌, ◌<◌, ◌≤◌, Bool, true, false, cond, List, [], ◌∷◌, Option, Some, None, refl, ap, ◌∙◌, arith}
+use Rattle.std.proofs.Common.{◌≡◌, ℕ, ◌^◌, ◌<◌, ◌≤◌, Bool, true, false, cond, List, [], ◌∷◌, Option, Some, None, is_some as found_some, refl, ap, ◌∙◌, arith}
 use Rattle.std.specs.Prelude.{codes, ◌&&◌, ◌||◌, ◌==◌, nat_lt}
 use Rattle.std.specs.Char.{is_ascii_digit, is_ascii_lowercase, is_ascii_uppercase}
 use Rattle.std.specs.List.{list_all}
@@ -9,9 +9,9 @@ use Rattle.lgc_lexer.specs.Forms.{is_word}
 use Rattle.lgc_lexer.specs.declared.token.Kind.TheVariants as kind
 use Rattle.lgc_print.specs.Text.{is_lower_word}
 use Rattle.lgc_tokens.specs.declared.class.Class.{Class}
-use Rattle.lgc_tokens.specs.declared.class.Class.TheVariants.{RuleWord, AtWord, OperatorWord, QuantifierWord, AllWord, SomeWord, Zero, Digits, Mixed, Caret, OpenBrace, CloseBrace, OpenSquare, CloseSquare, Comma, Dot, Colon, Semicolon, Slash}
+use Rattle.lgc_tokens.specs.declared.class.Class.TheVariants.{RuleWord, AtWord, OperatorWord, QuantifierWord, AllWord, SomeWord, Zero, LongNumber, Digits, Mixed, Caret, OpenBrace, CloseBrace, OpenSquare, CloseSquare, Comma, Dot, Colon, Semicolon, Slash}
 use Rattle.lgc_tokens.specs.Spelled.{Spelled}
-use Rattle.lgc_tokens.specs.Numbers.{number_of, number_in}
+use Rattle.lgc_tokens.specs.Numbers.{number_of, number_in, long_number_in}
 use Rattle.lgc_rules.specs.Names.{number, is_outside}
 use Rattle.lgc_tokens.specs.Classes.{same, is, class_in, class_of, class_of_word, class_of_number, class_of_numeral, class_of_digits, class_of_punct, names, arguments, numbers, zeros, values, is_name, is_number, is_argument, is_zero, is_value}
 use Rattle.lgc_tokens.proofs.LowerWords.{word_is_lower}
@@ -107,11 +107,12 @@ number_passes_values : (n : ℕ) (flag : Bool) → values (class_of_number n fla
 number_passes_values n flag = grind arith
 
 numeral_passes_values : (found : Option ℕ) (text : List ℕ) (flag : Bool) → values (class_of_numeral found text flag) ≡ true
-numeral_passes_values None text flag = by (list_all is_ascii_digit text)
+numeral_passes_values None text flag = by (found_some (long_number_in text)) (list_all is_ascii_digit text)
   where
-    by : (b : Bool) → values (cond b Digits Mixed) ≡ true
-    by true = refl
-    by false = refl
+    by : (long alone : Bool) → values (cond long LongNumber (cond alone Digits Mixed)) ≡ true
+    by true alone = refl
+    by false true = refl
+    by false false = refl
 numeral_passes_values (Some n) text flag = number_passes_values n flag
 
 digits_are_values : (text : List ℕ) (flag : Bool) → values (class_of_digits text flag) ≡ true

@@ -19,7 +19,7 @@ use Rattle.lgc_clauses.specs.declared.rule.Rule.{Rule}
 use Rattle.lgc_clauses.specs.declared.rule.Numbered.{Numbered}
 use Rattle.lgc_syntax.specs.declared.fault.TheConstants.{UNKNOWN_NAME, WRONG_ARITY, UNKNOWN_VALUE, BAD_ARGUMENT}
 use Rattle.lgc_tokens.specs.declared.number.TheConstants.{MOST_NUMBER}
-use Rattle.lgc_tokens.specs.Numbers.{number_in, writes_number}
+use Rattle.lgc_tokens.specs.Numbers.{number_in, writes_up_to}
 use Rattle.lgc_tokens.specs.Spelled.{Spelled}
 use Rattle.lgc_tokens.specs.Classes.{is_number}
 use Rattle.lgc_rules.specs.Names.{number, names_no_value, names_no_operator, names_no_quantifier, is_outside, padded, with_value}
@@ -62,9 +62,9 @@ number_within least most fault test k ts (t, is, (passes, none, one)) =
 -- no token writes a number that is too large
 number_small : (t : Spelled) → is_number t ≡ true → number t ≤ MOST_NUMBER
 unfolding number_in
-number_small t h = by (writes_number t.text) refl
+number_small t h = by (writes_up_to MOST_NUMBER t.text) refl
   where
-    by : (b : Bool) → writes_number t.text ≡ b → number t ≤ MOST_NUMBER
+    by : (b : Bool) → writes_up_to MOST_NUMBER t.text ≡ b → number t ≤ MOST_NUMBER
     by true e = leb-true (number t) MOST_NUMBER (and_parts _ _ (and_parts _ _ e).1).1
     by false e = let none = no_number t (rw e refl) in absurd cc
 

@@ -1,5 +1,4 @@
 pub mod RuleReads
-pub mod Loops
 pub mod Padding
 pub mod Fitting
 pub mod RuleFaults

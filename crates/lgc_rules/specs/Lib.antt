@@ -2,8 +2,6 @@ pub mod Names
 pub mod RuleGrammar
 pub mod PlainGrammar
 pub mod RuleReading
-pub mod Faults
-pub mod Gives
 pub mod RuleFile
 pub mod RulePlace
 pub mod FileReading

@@ -6,45 +6,28 @@ ghost use Rattle.lgc_lexer.specs.Tokens.{tokens_of};
 ghost use Rattle.lgc_clauses.specs.declared.rule.Rule.{Rule};
 ghost use Rattle.lgc_clauses.specs.declared.rule.Numbered.{Numbered};
 ghost use Rattle.lgc_syntax.specs.declared.fault.InputFault.{InputFault};
-ghost use Rattle.lgc_syntax.specs.declared.fault.InputFault.TheVariants.{Fault};
 ghost use Rattle.lgc_tokens.specs.declared.number.TheConstants.{MOST_NUMBER};
-ghost use Rattle.lgc_tokens.specs.Spelled.{Spelled, spelled_all, IsRest, IsShorter};
+ghost use Rattle.lgc_tokens.specs.Spelled.{Spelled, spelled_all, place_of, IsRest, IsShorter};
 ghost use Rattle.lgc_rules.specs.RuleReading.{next_rule_at, rules_at};
 ghost use Rattle.lgc_tokens.specs.Gives.{Gives};
-ghost use Rattle.lgc_rules.specs.Gives.{Holds, IfFault, IsTree, Tells, told_of, stop_told};
+ghost use Rattle.lgc_inputs.specs.Told.{Holds, IfFault, IsTree, Tells, told_of};
 ghost use Rattle.lgc_rules.specs.RuleFile.{IsRuleFor, FileGives, IsFileOf, IsRuleFault, IsFileFault};
-ghost use Rattle.lgc_rules.specs.RulePlace.{AnyNumbered, RuleGives, with_rest};
+ghost use Rattle.lgc_inputs.specs.Places.{with_rest};
+ghost use Rattle.lgc_rules.specs.RulePlace.{AnyNumbered, RuleGives};
 ghost use Rattle.lgc_rules.specs.FileReading.{file_read, rule_read};
 
 use crate::reading::Rest;
 use crate::rule::one_rule;
 use lgc_clauses::{Numbered, Rule};
-use lgc_lexer::{LexFault, Token, lex};
-use lgc_syntax::{BAD_BYTE, FILE_TOO_LONG, InputFault, OPEN_QUOTE, UNEXPECTED};
+use lgc_inputs::{fault_at, fault_of, tokens_in};
+use lgc_lexer::Token;
+use lgc_syntax::{InputFault, UNEXPECTED};
 use lgc_tokens::{Class, MOST_NUMBER, Reading, Stop, Terminal, next_is, place};
 use lgc_values::{List, Matrix};
 use std::alloc::Global;
 
 /// The greatest length of a rule file, in bytes.
 pub const LONGEST_FILE: usize = 33_554_432;
-
-fn fault_at(number: u8, offset: u32) -> InputFault
-    ensures { result ≡ Fault number offset }
-{
-    InputFault::Fault { number, offset }
-}
-
-// The fault for which reading stops.
-fn fault_of(bytes: &[u8], stop: Stop) -> InputFault
-    requires { length bytes.now < 2 ^ 32 }
-    ensures { result ≡ stop_told bytes.now stop.entry }
-{
-    match stop {
-        Stop::Unexpected(rest) => fault_at(UNEXPECTED, place(bytes, rest)),
-        Stop::Breaks(number, rest) => fault_at(number, place(bytes, rest)),
-        Stop::Memory => InputFault::Memory,
-    }
-}
 
 // The next rule, whose number is its place, is appended.
 fn next_rule<'a, const N: usize>(
@@ -98,7 +81,7 @@ fn rules_of<const N: usize>(
     requires length { length bytes.now < 2 ^ 32 }
     requires inside { AllIn bytes.now tokens.now }
     requires few { length tokens.now < MOST_NUMBER }
-    ensures { Tells (λ rules. rules) result (told_of (length bytes.now) (whole (rules_at N m.now) (spelled_all bytes.now tokens.now))) }
+    ensures { Tells (λ rules. rules) result (told_of place_of (length bytes.now) (whole (rules_at N m.now) (spelled_all bytes.now tokens.now))) }
 {
     match more_rules(alloc, m, bytes, tokens) {
         Ok((rules, [])) => Ok(rules),
@@ -114,15 +97,8 @@ fn rules_in<const N: usize>(
 ) -> Result<List<Rule<N>>, InputFault>
     ensures { Tells (λ rules. rules) result (file_read N m.now bytes.now) }
 {
-    if bytes.len() > LONGEST_FILE {
-        return Err(fault_at(FILE_TOO_LONG, LONGEST_FILE as u32));
-    }
-    match lex(alloc, bytes) {
-        Ok(tokens) => rules_of(alloc, m, bytes, &tokens),
-        Err(LexFault::BadByte(offset)) => Err(fault_at(BAD_BYTE, offset)),
-        Err(LexFault::OpenQuote(offset)) => Err(fault_at(OPEN_QUOTE, offset)),
-        Err(LexFault::Memory) => Err(InputFault::Memory),
-    }
+    let tokens = tokens_in(alloc, bytes, LONGEST_FILE as u32)?;
+    rules_of(alloc, m, bytes, &tokens)
 }
 
 /// The rules of a rule file, in their order; or its first fault.

@@ -6,7 +6,7 @@ use Rattle.lgc_clauses.specs.declared.rule.Rule.{Rule}
 use Rattle.lgc_clauses.specs.Kinds.{plain_rule}
 use Rattle.lgc_syntax.specs.declared.fault.InputFault.{InputFault}
 use Rattle.lgc_syntax.specs.declared.fault.InputFault.TheVariants.{Fault, Memory}
-use Rattle.lgc_rules.specs.Gives.{Holds}
+use Rattle.lgc_inputs.specs.Told.{Holds}
 use Rattle.lgc_rules.specs.RuleFile.{FileGives}
 use Rattle.lgc_verify.specs.Verdicts.{IsRight, IsText}
 use Rattle.lgc_top.specs.Verify.{RulesGiven, IsVerdictText, JudgesBytes}

@@ -2,7 +2,7 @@ use Rattle.std.proofs.Common.{ap, length, refl, arith}
 use Rattle.std.proofs.lemmas.Result.{err_from_is_err_and}
 use Rattle.lgc_rules.specs.RuleReading.{rules_at}
 use Rattle.lgc_rules.proofs.RuleReads.{next_rule_reads}
-use Rattle.lgc_rules.proofs.Loops.{grows, growth_fails, growth_ends}
+use Rattle.lgc_tokens.proofs.Loops.{grows, growth_fails, growth_ends}
 use Rattle.lgc_rules.proofs.file.more_rules.Goals as goal
 
 pub loop-alloc-init : goal.loop-alloc-init

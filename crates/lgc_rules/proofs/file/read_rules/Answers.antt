@@ -1,5 +1,6 @@
 use Rattle.std.proofs.Common.{◌∙◌}
-use Rattle.lgc_rules.proofs.Tops.{file_answer, file_once, file_is, file_faults, file_fits, tells_same}
+use Rattle.lgc_inputs.proofs.Stops.{tells_same}
+use Rattle.lgc_rules.proofs.Tops.{file_answer, file_once, file_is, file_faults, file_fits}
 use Rattle.lgc_rules.proofs.file.read_rules.Goals as goal
 
 pub returns-clause-answer : goal.returns-clause-answer

@@ -1,7 +1,8 @@
 use Rattle.std.proofs.Common.{length, drop, arith, ◌∙◌}
 use Rattle.lgc_lexer.proofs.SpanLaws.{tokens_all_in}
 use Rattle.lgc_tokens.specs.Spelled.{spelled_all}
-use Rattle.lgc_rules.proofs.Tops.{rule_answer, rule_once, rule_is, rule_faults, rule_for, tells_same}
+use Rattle.lgc_inputs.proofs.Stops.{tells_same}
+use Rattle.lgc_rules.proofs.Tops.{rule_answer, rule_once, rule_is, rule_faults, rule_for}
 use Rattle.lgc_rules.proofs.file.rule_at.Goals as goal
 
 pub rule_from-requires : goal.rule_from-requires

@@ -2,7 +2,7 @@ use Rattle.std.proofs.Common.{arith}
 use Rattle.std.proofs.lemmas.Result.{err_from_is_err_and}
 use Rattle.lgc_rules.specs.RuleReading.{more_clauses_at}
 use Rattle.lgc_rules.proofs.RuleReads.{quantifier_clause_reads, next_clause_reads}
-use Rattle.lgc_rules.proofs.Loops.{grows, growth_fails, growth_ends}
+use Rattle.lgc_tokens.proofs.Loops.{grows, growth_fails, growth_ends}
 use Rattle.lgc_rules.proofs.qclause.more_clauses.Goals as goal
 
 pub returns-in_err-rest-clause-gives : goal.returns-in_err-rest-clause-gives

@@ -1,7 +1,7 @@
 use Rattle.std.proofs.Common.{[], ◌∷◌, arith}
 use Rattle.lgc_rules.specs.RuleReading.{more_sets_at}
 use Rattle.lgc_rules.proofs.RuleReads.{next_set_reads}
-use Rattle.lgc_rules.proofs.Loops.{goes_on, closes, going_fails, going_ends}
+use Rattle.lgc_tokens.proofs.Loops.{goes_on, closes, going_fails, going_ends}
 use Rattle.lgc_rules.proofs.qclause.more_sets.Goals as goal
 
 pub returns-in-Err-clause-gives : goal.returns-in-Err-clause-gives

@@ -1,0 +1,3 @@
+pub mod Stops
+pub mod Texts
+pub mod Places
