@@ -72,7 +72,7 @@ pub fn put_value(name: &[u8], into: &mut Vec<u8>) -> Result<(), AllocError>
     all_or_nothing(outcome, before, into)
 }
 
-fn put_symbol(name: &[u8], into: &mut Vec<u8>) -> Result<(), AllocError>
+pub(crate) fn put_symbol(name: &[u8], into: &mut Vec<u8>) -> Result<(), AllocError>
     ensures { OnOk result (into.new.items ≡ into.old.items ++ symbol_text name.now) }
 {
     if is_lower_word(name) {
