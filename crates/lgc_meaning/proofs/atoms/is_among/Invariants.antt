@@ -1,0 +1,8 @@
+-- How the loop over the others looks for the formula.
+use Rattle.std.proofs.Common.{◌≡◌, drop}
+use Rattle.std.specs.List.{list_any}
+use Rattle.lgc_syntax.specs.Equality.{same_formula}
+use Rattle.lgc_meaning.proofs.atoms.is_among.Given as goal
+
+abbrev pub invariant-loop-other : goal.invariant-loop-other
+invariant-loop-other l = list_any (same_formula l.f) l.others ≡ list_any (same_formula l.f) (drop l.other-index l.others)
