@@ -1,0 +1,15 @@
+pub mod Tables
+pub mod NamedTokens
+pub mod ScopeLaws
+pub mod Heads
+pub mod Operands
+pub mod TermReads
+pub mod TermsKept
+pub mod FitsAround
+pub mod FormulasKept
+pub mod TermsSettle
+pub mod FormulaReads
+pub mod WholeFormulas
+pub mod FormulasSettle
+pub mod FormulaLists
+pub mod FaultNumbers

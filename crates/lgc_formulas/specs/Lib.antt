@@ -1,0 +1,12 @@
+pub mod Named
+pub mod Scopes
+pub mod Setting
+pub mod Faults
+pub mod TermGrammar
+pub mod PlainTerms
+pub mod TermReading
+pub mod FormulaGrammar
+pub mod PlainFormulas
+pub mod FormulaReading
+pub mod HeadReading
+pub mod FormulaPlaces
