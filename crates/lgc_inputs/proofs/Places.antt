@@ -12,7 +12,7 @@ use Rattle.lgc_syntax.specs.declared.fault.InputFault.{InputFault}
 use Rattle.lgc_syntax.specs.declared.fault.InputFault.TheVariants as fault
 use Rattle.lgc_syntax.specs.declared.fault.TheConstants.{UNEXPECTED}
 use Rattle.lgc_inputs.specs.Faults.{IsFaultIn, fault_of}
-use Rattle.lgc_inputs.specs.Places.{EndsBefore, BeginsWith, PlaceGives, with_rest}
+use Rattle.lgc_inputs.specs.Places.{EndsBefore, BeginsWith, PlaceGives, with_rest, AccountGives, viewed}
 use Rattle.lgc_inputs.specs.Told.{IfFault, Holds, IsTree, Tells, told_of}
 use Rattle.lgc_inputs.proofs.Texts.{fault_told, fault_number}
 
@@ -166,15 +166,54 @@ pub place_complete : {S A : Type 0} (offset : S → ℕ) {p : Reader S A} {L : G
 place_complete offset {p} reads end ts at tree front rest result split h told =
     place_is offset reads (settled_never reads) end ts at tree rest result (begins_read offset reads (settled_never reads) (drop at ts) rest tree (ap p split ∙ reads.complete tree front rest h (never_next rest))) told
 
+-- ---- by any account of what reading answers
+
+-- `Answers` is what reading has to answer, and p gives it and nothing else.
+module _ {S A X : Type 0} (offset : S → ℕ) (Answers : List S → Result (A × List S) (List S × Why) → Type 0) (p : Reader S A) (gives : (ts : List S) → Answers ts (p ts)) (exact : (ts : List S) (answer : Result (A × List S) (List S × Why)) → Answers ts answer → p ts ≡ answer) (end : ℕ) (view : X → A × List S) (ts : List S) where
+  told_ok : (x : X) → told_of offset end (p ts) ≡ Ok (view x) → Answers ts (Ok (view x))
+  told_ok x told = by (p ts) refl
+    where
+      by : (r : Result (A × List S) (List S × Why)) → p ts ≡ r → Answers ts (Ok (view x))
+      by (Ok y) e = let same : y ≡ view x = (let is = rw e at told in cc) in subst (λ (z : A × List S). Answers ts (Ok z)) same (subst (Answers ts) e (gives ts))
+      by (Err d) e = absurd (let same = rw e at told in cc)
+
+  told_err : (f : InputFault) → told_of offset end (p ts) ≡ Err f → AccountGives offset Answers end view ts (Err f)
+  told_err f told = by (p ts) refl
+    where
+      by : (r : Result (A × List S) (List S × Why)) → p ts ≡ r → AccountGives offset Answers end view ts (Err f)
+      by (Ok y) e = absurd (let same = rw e at told in cc)
+      by (Err d) e = let same : f ≡ fault_of offset end d = (let is = rw e at told in cc) in (d, subst (Answers ts) e (gives ts), same)
+
+  pub account_answer : (result : Result X InputFault) → Tells view result (told_of offset end (p ts)) → Holds (AccountGives offset Answers end view ts) result
+  account_answer (Ok x) told = told_ok x told
+  account_answer (Err fault.Memory) told = tt
+  account_answer (Err (fault.Fault number place)) told = told_err (fault.Fault number place) told
+
+  pub account_once : (told : Result X InputFault) → AccountGives offset Answers end view ts told → told_of offset end (p ts) ≡ viewed view told
+  account_once (Ok x) h = rw (exact ts (Ok (view x)) h) refl
+  account_once (Err f) (e, h, is) = rw (exact ts (Err e) h, is) refl
+
+  pub account_is : (tree : A) (rest : List S) (result : Result X InputFault) → p ts ≡ Ok (tree, rest) → Tells view result (told_of offset end (p ts)) → IsTree view result (tree, rest)
+  account_is tree rest (Ok x) e told = let read : told_of offset end (p ts) ≡ Ok (tree, rest) = rw e refl in let same = sym told ∙ read in cc
+  account_is tree rest (Err fault.Memory) e told = tt
+  account_is tree rest (Err (fault.Fault number place)) e told = absurd (let same = rw e at told in cc)
+
 -- ---- by how many tokens are left
 
+-- what is left behind a phrase are the last tokens
+abbrev pub Splits : {S A : Type 0} → Reader S A → Type 0
+Splits {S} {A} p = (ts rest : List S) (tree : A) → p ts ≡ Ok (tree, rest) → (front : List S) × (ts ≡ front ++ rest)
+
+pub reads_split : {S A : Type 0} {p : Reader S A} {L : Grammar S A} {P : Language S} {start : Start S} {go : S → Bool} → Reads p L P start go → Splits p
+reads_split reads ts rest tree e = let k = reads.took ts tree rest e in (k.front, k.split)
+
 -- tokens seen one by one
-module _ {S A : Type 0} (offset : S → ℕ) (see : List Token → List S) (seen_long : (ts : List Token) → length (see ts) ≡ length ts) (seen_drop : (ts : List Token) (i : ℕ) → see (drop i ts) ≡ drop i (see ts)) {p : Reader S A} {L : Grammar S A} {P : Language S} {start : Start S} {go : S → Bool} (reads : Reads p L P start go) (end : ℕ) where
+module _ {S A : Type 0} (offset : S → ℕ) (see : List Token → List S) (seen_long : (ts : List Token) → length (see ts) ≡ length ts) (seen_drop : (ts : List Token) (i : ℕ) → see (drop i ts) ≡ drop i (see ts)) (p : Reader S A) (splits : Splits p) (end : ℕ) where
   -- the tokens that are left behind a phrase, by how many they are
   pub told_left : (ts rest : List Token) (tree : A) → p (see ts) ≡ Ok (tree, see rest) → told_of offset end (p (see ts)) ≡ Ok (tree, drop (length ts - length rest) (see ts))
   told_left ts rest tree e =
-      let k = reads.took (see ts) tree (see rest) e in
-      let behind : drop (length ts - length rest) (see ts) ≡ see rest = rw (seen_long ts, seen_long rest) at (drop_to (see ts) k.front (see rest) k.split) in
+      let (front, split) = splits (see ts) (see rest) tree e in
+      let behind : drop (length ts - length rest) (see ts) ≡ see rest = rw (seen_long ts, seen_long rest) at (drop_to (see ts) front (see rest) split) in
       rw (behind, e) refl
 
   module _ (tokens back : List Token) (at : ℕ) (within : at ≤ length tokens) (is : back ≡ drop at tokens) where

@@ -1,7 +1,7 @@
 -- What reading a whole text tells is what the text gives, and the one thing that it gives.
-use Rattle.std.proofs.Common.{◌≡◌, ℕ, ◌≤◌, Bool, true, false, List, ◌∷◌, ◌++◌, length, Result, Ok, Err, refl, sym, ap, subst, ◌∙◌, []}
+use Rattle.std.proofs.Common.{◌≡◌, ℕ, ◌<◌, ◌≤◌, Bool, true, false, List, ◌∷◌, ◌++◌, length, Result, Ok, Err, refl, sym, ap, subst, ◌∙◌, []}
 use Rattle.std.specs.Prelude.{nat_lt}
-use Rattle.std.proofs.lemmas.Bool.{ltb-false, le-ltb}
+use Rattle.std.proofs.lemmas.Bool.{ltb-true, ltb-false, le-ltb}
 use Rattle.lgc_grammar.specs.Grammar.{Grammar, Language, Why, Unexpected, Breaks, StopsAt, Answers, NextBreaks}
 use Rattle.lgc_grammar.proofs.BrokenRules.{Only}
 use Rattle.lgc_lexer.specs.declared.token.Token.{Token}
@@ -87,7 +87,7 @@ module _ {S A : Type 0} (offset : S → ℕ) (see : List Token → List S) (L : 
         by false e = cut_text (ltb-false limit (length bytes) e) (tokens_of bytes) tree refl (rw e at h)
 
     -- the numbers of faults, where the rules of the grammar have numbers of such
-    module _ (Q : ℕ → Type 0) (numbers : Only Q L) (too_long : Q FILE_TOO_LONG) (bad_byte : Q BAD_BYTE) (open_quote : Q OPEN_QUOTE) (unexpected : Q UNEXPECTED) where
+    module _ (Q : ℕ → Type 0) (numbers : Only Q L) (too_long : limit < length bytes → Q FILE_TOO_LONG) (bad_byte : Q BAD_BYTE) (open_quote : Q OPEN_QUOTE) (unexpected : Q UNEXPECTED) where
       cut_number : (lexed : Result (List Token) LexFault) (number at : ℕ) → CutGives offset see L P (length bytes) (cut lexed) (Err (fault.Fault number at)) → Q number
       cut_number (Ok tokens) number at h = fault_number offset Q L P (length bytes) (see tokens) number at numbers unexpected h
       cut_number (Err (BadByte place)) number at h = let same : number ≡ BAD_BYTE = cc in subst Q (sym same) bad_byte
@@ -98,7 +98,7 @@ module _ {S A : Type 0} (offset : S → ℕ) (see : List Token → List S) (L : 
       text_number number at h = by (nat_lt limit (length bytes)) refl
         where
           by : (long : Bool) → nat_lt limit (length bytes) ≡ long → Q number
-          by true e = let long = rw e at h in let same : number ≡ FILE_TOO_LONG = cc in subst Q (sym same) too_long
+          by true e = let long = rw e at h in let same : number ≡ FILE_TOO_LONG = cc in subst Q (sym same) (too_long (ltb-true limit (length bytes) e))
           by false e = cut_number (tokens_of bytes) number at (rw e at h)
 
       pub text_faults : (result : Result A InputFault) → Holds (TextGives offset see L P limit bytes) result → IfFault result Q

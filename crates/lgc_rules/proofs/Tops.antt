@@ -55,7 +55,7 @@ module _ (n : ℕ) (logic : Logic) (bytes : List ℕ) where
       wider number (inr h) = inr h
 
   pub file_faults : (result : Result (List (Rule n)) InputFault) → Holds (FileGives n logic bytes) result → IfFault result IsFileFault
-  file_faults = text_faults place_of (spelled_all bytes) (Rules n logic) PlainRules (whole (rules_at n logic)) (whole_answers (rules_read n logic)) (whole_exact (rules_read n logic)) LONGEST_FILE bytes IsFileFault file_only (inl (omega arith, omega arith)) (inl (omega arith, omega arith)) (inl (omega arith, omega arith)) (inl (omega arith, omega arith))
+  file_faults = text_faults place_of (spelled_all bytes) (Rules n logic) PlainRules (whole (rules_at n logic)) (whole_answers (rules_read n logic)) (whole_exact (rules_read n logic)) LONGEST_FILE bytes IsFileFault file_only (λ long. inl (omega arith, omega arith)) (inl (omega arith, omega arith)) (inl (omega arith, omega arith)) (inl (omega arith, omega arith))
 
   -- each rule of the grammar is one for the logic
   rules_fit : length logic.names ≡ n → (ts : List Spelled) (rules : List (Rule n)) → length ts ≤ LONGEST_FILE → Rules n logic (Ok rules) ts → All (IsRuleFor n logic) rules
