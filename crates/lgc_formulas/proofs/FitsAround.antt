@@ -1,4 +1,4 @@
--- What fits where some quantifiers stand around it, fits where more do.
+-- What fits where some quantifiers stand around it, fits where more do; and a term that fits where none does has no bound variable.
 use Rattle.std.proofs.Common.{◌≡◌, ◌≤◌, ◌+◌, ℕ, Bool, true, List, length, sym, ◌∙◌, arith}
 use Rattle.std.specs.Prelude.{◌==◌, nat_lt}
 use Rattle.std.specs.List.{AllByRecursion, list_all}
@@ -8,6 +8,8 @@ use Rattle.lgc_syntax.specs.declared.formula.Term.{Term}
 use Rattle.lgc_syntax.specs.declared.formula.Formula.{Formula, Atom, Op, Quant}
 use Rattle.lgc_syntax.specs.Fits.{term_fits, fits_within}
 use Rattle.lgc_syntax.proofs.FitsLaws.{term_fits-Bound, term_fits-Free, term_fits-Apply, fits_within-Atom, fits_within-Op, fits_within-Quant}
+use Rattle.lgc_syntax.specs.Variables.{has_no_bound}
+use Rattle.lgc_syntax.proofs.VariableLaws.{has_no_bound-Free, has_no_bound-Apply}
 use Rattle.lgc_syntax.proofs.Induction.{term_induction, formula_induction}
 use Rattle.lgc_syntax.proofs.Lists.{each_from, each_always, each_passing}
 use Rattle.lgc_formulas.proofs.TermsKept.{all_pass}
@@ -24,6 +26,13 @@ term_fits_more = term_induction TermFitsMore
     (λ i j k le h. let below = ltb-true i j (sym (term_fits-Bound i j) ∙ h) in term_fits-Bound i k ∙ lt-ltb i k (omega arith))
     (λ x j k le h. term_fits-Free x k)
     (λ f args each j k le h. term_fits-Apply f args k ∙ all_from (λ t. term_fits t j) (λ t. term_fits t k) args (each_from TermFitsMore (λ t. term_fits t j ≡ true → term_fits t k ≡ true) args (λ t more. more j k le) each) (sym (term_fits-Apply f args j) ∙ h))
+
+-- a term with no quantifier around it
+pub fits_closed : (t : Term) → term_fits t 0 ≡ true → has_no_bound t ≡ true
+fits_closed = term_induction (λ t. term_fits t 0 ≡ true → has_no_bound t ≡ true)
+    (λ i h. let below = ltb-true i 0 (sym (term_fits-Bound i 0) ∙ h) in absurd (omega (arith, below)))
+    (λ x h. has_no_bound-Free x)
+    (λ f args each h. has_no_bound-Apply f args ∙ all_from (λ t. term_fits t 0) has_no_bound args each (sym (term_fits-Apply f args 0) ∙ h))
 
 module _ (logic : Logic) where
   abbrev FitsMore : Formula → Type 0

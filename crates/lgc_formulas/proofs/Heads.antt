@@ -1,5 +1,5 @@
 -- What a formula begins with: the reader of formulas is that of what stands behind their first tokens.
-use Rattle.std.proofs.Common.{◌≡◌, ℕ, zero, suc, ◌-◌, ◌≤◌, Bool, true, false, List, [], ◌∷◌, Option, Some, None, Ok, Err, refl, arith}
+use Rattle.std.proofs.Common.{◌≡◌, ℕ, zero, suc, ◌-◌, ◌≤◌, Bool, true, false, List, [], ◌∷◌, Option, Some, None, Err, refl, arith}
 use Rattle.std.specs.Prelude.{◌||◌, ◌&&◌, if◌then◌else◌}
 use Rattle.lgc_grammar.specs.Grammar.{Unexpected}
 use Rattle.lgc_grammar.specs.Reading.{Reader, map_at, then_at, judged}

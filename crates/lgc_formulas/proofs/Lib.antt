@@ -13,3 +13,4 @@ pub mod WholeFormulas
 pub mod FormulasSettle
 pub mod FormulaLists
 pub mod FaultNumbers
+pub mod Tops

@@ -1,5 +1,5 @@
 -- Formulas behind others in an operator's brackets: one more is read.
-use Rattle.std.proofs.Common.{◌≡◌, ℕ, suc, Bool, false, List, Ok, refl, sym}
+use Rattle.std.proofs.Common.{◌≡◌, ℕ, suc, false, List, Ok, refl, sym}
 use Rattle.lgc_grammar.specs.Reading.{Reader, one_at, next_is}
 use Rattle.lgc_tokens.specs.declared.class.Class.TheVariants.{CloseRound, Comma}
 use Rattle.lgc_formulas.specs.declared.formula.Read.{Read}

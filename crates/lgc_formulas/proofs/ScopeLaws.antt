@@ -1,6 +1,6 @@
 -- The names of each kind of scope.
 use Rattle.std.proofs.Common.{ℕ, ◌≡◌, List, [], ◌∷◌, sym, ◌∙◌, ap}
-use Rattle.lgc_formulas.specs.declared.scope.Scope.{Scope, Outermost, Inside, fold-Scope, fold-roll-Scope}
+use Rattle.lgc_formulas.specs.declared.scope.Scope.{Outermost, Inside, fold-Scope, fold-roll-Scope}
 use Rattle.lgc_formulas.specs.declared.scope.Scope.TheVariants.{rolls-Outermost, rolls-Inside}
 use Rattle.lgc_formulas.specs.declared.scope.Scope.TheOpen as scope
 use Rattle.lgc_formulas.specs.Scopes.{names_of, names_layer}

@@ -10,3 +10,5 @@ pub mod PlainFormulas
 pub mod FormulaReading
 pub mod HeadReading
 pub mod FormulaPlaces
+pub mod FormulaTexts
+pub mod Limits

@@ -11,6 +11,10 @@ pub record Setting : Type 0 where
   pub quantified : Bool
   pub lets : Option (List Formula)
 
+-- the setting of these parts
+abbrev pub setting_with : Logic → Bool → Option (List Formula) → Setting
+setting_with logic quantified lets = record { logic = logic; quantified = quantified; lets = lets }
+
 -- what the code reads against
 abbrev pub setting_of : {n : ℕ} → Context n → Setting
 setting_of c = record { logic = c.m.now; quantified = c.quantified; lets = option_map (λ lets. lets.now) c.lets }

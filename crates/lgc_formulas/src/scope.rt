@@ -42,8 +42,8 @@ pub(crate) fn inside<'a>(name: &'a [u8], around: &'a Scope<'a>) -> Scope<'a>
     Scope::Inside(name, around)
 }
 
-/// Whether a name is `B` and digits.
-pub(crate) fn is_reserved(text: &[u8]) -> bool
+/// Whether a name is `B` and digits, as the variables of quantifiers are written.
+pub fn is_reserved(text: &[u8]) -> bool
     ensures { result ≡ is_reserved text.now }
 {
     match text.split_first() {

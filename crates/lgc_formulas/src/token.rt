@@ -76,7 +76,7 @@ pub(crate) fn is_hash<const N: usize>(c: &Context<N>, token: &Token, rest: &[Tok
 
 /// Whether a formula begins with a token before others.
 #[tactic(auto, using(crate::proofs::Heads::names_start))]
-pub(crate) fn starts_formula<const N: usize>(c: &Context<N>, token: &Token, rest: &[Token]) -> bool
+pub fn starts_formula<const N: usize>(c: &Context<N>, token: &Token, rest: &[Token]) -> bool
     requires token { LiesIn (length c.now.bytes.now) token.now }
     requires rest { AllIn c.now.bytes.now rest.now }
     ensures { result ≡ starts_formula (numbered (setting_of c.now)) (named c.now.m.now c.now.bytes.now token.now rest.now) }
@@ -85,7 +85,7 @@ pub(crate) fn starts_formula<const N: usize>(c: &Context<N>, token: &Token, rest
 }
 
 /// The next token, which has to be of the class, and those behind it.
-pub(crate) fn one<'a, const N: usize>(
+pub fn one<'a, const N: usize>(
     c: &Context<N>,
     class: Class,
     tokens: &'a [Token],
@@ -104,7 +104,7 @@ pub(crate) fn one<'a, const N: usize>(
 }
 
 /// Whether a token is next, and it is of the class.
-pub(crate) fn next_is<const N: usize>(c: &Context<N>, class: Class, tokens: &[Token]) -> bool
+pub fn next_is<const N: usize>(c: &Context<N>, class: Class, tokens: &[Token]) -> bool
     requires { AllIn c.now.bytes.now tokens.now }
     ensures { result ≡ next_is (is class) (named_all c.now.m.now c.now.bytes.now tokens.now) }
 {

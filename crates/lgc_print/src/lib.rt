@@ -4,6 +4,7 @@
 //! - [`calculus_text`] is the text of a list of rules, numbered from 1.
 //! - [`put_value`], [`put_set`] and [`put_number`] put the name of a truth value, a set and a number, as rules, verdicts and the lines
 //!   of faults have them.
+//! - [`is_lower_word`] and [`has_word_bytes`] tell which names of symbols and of truth values are written without quotes.
 //! - [`write_formula`] and [`write_term`] put the text of a formula or a term behind other bytes.
 //!
 //! `specs/Text.antt` defines the one spelling: a set is `{f,u}`, a literal `1^{f,u}`, and a clause without
@@ -16,4 +17,6 @@ mod rules;
 
 pub use formulas::{write_formula, write_term};
 pub use lgc_clauses::Numbered;
-pub use rules::{calculus_text, put_number, put_set, put_value, write_rule};
+pub use rules::{
+    calculus_text, has_word_bytes, is_lower_word, put_number, put_set, put_value, write_rule,
+};

@@ -18,13 +18,15 @@ fn is_word(byte: u8) -> bool
     byte.is_ascii_alphanumeric() || byte == b'_'
 }
 
-fn has_word_bytes(name: &[u8]) -> bool
+/// Whether a name has letters, digits and `_` alone.
+pub fn has_word_bytes(name: &[u8]) -> bool
     ensures { result ≡ list_all is_word name.now }
 {
     name.iter().all(|b| is_word(*b))
 }
 
-fn is_lower_word(name: &[u8]) -> bool
+/// Whether a name is a lower-case letter, and then letters, digits and `_`.
+pub fn is_lower_word(name: &[u8]) -> bool
     ensures { result ≡ is_lower_word name.now }
 {
     match name.split_first() {

@@ -14,7 +14,7 @@ use Rattle.lgc_values.specs.Logic.{Logic, IsLogic, operator_at, quantifier_at, v
 use Rattle.lgc_tokens.specs.Spelled.{Spelled}
 use Rattle.lgc_rules.specs.Names.{value_of, operator_of, quantifier_of, names_no_value, names_no_operator, names_no_quantifier}
 
-differ : (xs ys : List ℕ) → xs ≢ ys → bytes_eq xs ys ≡ false
+pub differ : (xs ys : List ℕ) → xs ≢ ys → bytes_eq xs ys ≡ false
 differ xs ys ne = by (bytes_eq xs ys) refl
   where
     by : (b : Bool) → bytes_eq xs ys ≡ b → b ≡ false
@@ -66,7 +66,7 @@ module _ (logic : Logic) (is : IsLogic logic) where
 
   -- ---- operators
 
-  operator_found : (op : ℕ) (text : List ℕ) → op < length logic.operators → text ≡ (operator_at logic op).name → operator_named logic text ≡ Some op
+  pub operator_found : (op : ℕ) (text : List ℕ) → op < length logic.operators → text ≡ (operator_at logic op).name → operator_named logic text ≡ Some op
   operator_found op text lt e =
       let d : Operator = record { name = []; arity = 0; table = [] } in
       let at : operator_at logic op ≡ get_or logic.operators op d = ap (λ o. unwrap_or o d) (slice_get-get_or logic.operators op d lt) in
@@ -78,7 +78,7 @@ module _ (logic : Logic) (is : IsLogic logic) where
 
   -- ---- quantifiers
 
-  quantifier_found : (q : ℕ) (text : List ℕ) → q < length logic.quantifiers → text ≡ (quantifier_at logic q).name → quantifier_named logic text ≡ Some q
+  pub quantifier_found : (q : ℕ) (text : List ℕ) → q < length logic.quantifiers → text ≡ (quantifier_at logic q).name → quantifier_named logic text ≡ Some q
   quantifier_found q text lt e =
       let d : Quantifier = record { name = []; table = [] } in
       let at : quantifier_at logic q ≡ get_or logic.quantifiers q d = ap (λ o. unwrap_or o d) (slice_get-get_or logic.quantifiers q d lt) in

@@ -117,13 +117,13 @@ quoted_taken b name rest all =
     let some : nat_lt 0 (length (b ∷ name)) ≡ true = lt-ltb 0 (length (b ∷ name)) (omega arith) in
     record { gives = λ at after. rw (run, left, some) refl }
 
-pub lex_quoted : (name rest : List ℕ) (words : List Word) → IsPlainName name → begins_with words ≡ false → Lexes rest words → Lexes (quoted name ++ rest) (in_quotes name ∷ words)
-lex_quoted [] rest words named is lexed = absurd (named.nonempty refl)
-lex_quoted (b ∷ name) rest words named is lexed =
+pub lex_quoted : (name rest : List ℕ) (words : List Word) (flag : Bool) → IsPlainName name → begins_with words ≡ flag → Lexes rest words → Lexes (quoted name ++ rest) (record { kind = Quoted; text = name; before_caret = flag } ∷ words)
+lex_quoted [] rest words flag named is lexed = absurd (named.nonempty refl)
+lex_quoted (b ∷ name) rest words flag named is lexed =
     let taken : IsTaken 39 ((b ∷ name) ++ 39 ∷ rest) Quoted (length (b ∷ name) + 1) = quoted_taken b name rest (all_quotable (b ∷ name) named.printable) in
     let same : ((b ∷ name) ++ 39 ∷ []) ++ rest ≡ (b ∷ name) ++ 39 ∷ rest = append_assoc (b ∷ name) (39 ∷ []) rest in
     let size : length (b ∷ name) + 1 ≡ length ((b ∷ name) ++ 39 ∷ []) = simp length-append in
-    lex_token Quoted 39 ((b ∷ name) ++ 39 ∷ []) (b ∷ name) rest words false (subst (λ t. IsTaken 39 t Quoted (length ((b ∷ name) ++ 39 ∷ []))) (sym same) (subst (λ n. IsTaken 39 ((b ∷ name) ++ 39 ∷ rest) Quoted n) size taken)) (record { opening = 39 ∷ []; closing = 39 ∷ []; split = refl; left = refl; right = refl }) is lexed
+    lex_token Quoted 39 ((b ∷ name) ++ 39 ∷ []) (b ∷ name) rest words flag (subst (λ t. IsTaken 39 t Quoted (length ((b ∷ name) ++ 39 ∷ []))) (sym same) (subst (λ n. IsTaken 39 ((b ∷ name) ++ 39 ∷ rest) Quoted n) size taken)) (record { opening = 39 ∷ []; closing = 39 ∷ []; split = refl; left = refl; right = refl }) is lexed
 
 -- ---- single bytes
 
@@ -133,8 +133,8 @@ sign b = record { kind = Punct; text = b ∷ []; before_caret = false }
 abbrev pub caret : Word
 caret = record { kind = Symbol; text = 94 ∷ []; before_caret = false }
 
-pub lex_sign : (b : ℕ) (rest : List ℕ) (words : List Word) → IsTaken b rest Punct 0 → begins_with words ≡ false → Lexes rest words → Lexes (b ∷ rest) (sign b ∷ words)
-lex_sign b rest words taken is lexed = lex_token Punct b [] (b ∷ []) rest words false taken (whole_content Punct (b ∷ []) refl) is lexed
+pub lex_sign : (b : ℕ) (rest : List ℕ) (words : List Word) (flag : Bool) → IsTaken b rest Punct 0 → begins_with words ≡ flag → Lexes rest words → Lexes (b ∷ rest) (record { kind = Punct; text = b ∷ []; before_caret = flag } ∷ words)
+lex_sign b rest words flag taken is lexed = lex_token Punct b [] (b ∷ []) rest words flag taken (whole_content Punct (b ∷ []) refl) is lexed
 
 caret_taken : (rest : List ℕ) → IsTaken 94 rest Symbol (prefix_len is_symbol rest)
 unfolding piece_of
@@ -165,6 +165,14 @@ colon_taken rest = record { gives = λ at after. refl }
 pub semicolon_taken : (rest : List ℕ) → IsTaken 59 rest Punct 0
 unfolding piece_of
 semicolon_taken rest = record { gives = λ at after. refl }
+
+pub open_round_taken : (rest : List ℕ) → IsTaken 40 rest Punct 0
+unfolding piece_of
+open_round_taken rest = record { gives = λ at after. refl }
+
+pub close_round_taken : (rest : List ℕ) → IsTaken 41 rest Punct 0
+unfolding piece_of
+close_round_taken rest = record { gives = λ at after. refl }
 
 pub open_square_taken : (rest : List ℕ) → IsTaken 91 rest Punct 0
 unfolding piece_of

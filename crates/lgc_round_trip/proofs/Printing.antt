@@ -113,7 +113,7 @@ word_prints (b ∷ name) some all = record {
 
 quoted_prints : (name : List ℕ) → IsPlainName name → Prints Ends (quoted name) (in_quotes name ∷ [])
 quoted_prints name named = record {
-  lexes = λ rest more e l. lex_quoted name rest more named e.starts.caret l;
+  lexes = λ rest more e l. lex_quoted name rest more false named e.starts.caret l;
   starts = λ rest more. record { symbol = refl; caret = refl };
 }
 
@@ -132,7 +132,7 @@ value_prints name named = by (list_all is_word name) refl
 abbrev pub symbol_word : List ℕ → Word
 symbol_word name = cond (is_lower_word name) (plain name false) (in_quotes name)
 
-lower_is_word : (name : List ℕ) → is_lower_word name ≡ true → list_all is_word name ≡ true
+pub lower_is_word : (name : List ℕ) → is_lower_word name ≡ true → list_all is_word name ≡ true
 lower_is_word [] h = refl
 lower_is_word (b ∷ name) h = by (is_ascii_lowercase b) (list_all is_word name) refl h
   where
@@ -201,7 +201,7 @@ some_prints = word_prints (codes "some") (λ e. absurd cc) refl
 
 pub colon_prints : Prints Starts (codes ": ") (sign 58 ∷ [])
 colon_prints = record {
-  lexes = λ rest more s l. lex_sign 58 _ more (colon_taken _) s.caret (lex_space rest more l);
+  lexes = λ rest more s l. lex_sign 58 _ more false (colon_taken _) s.caret (lex_space rest more l);
   starts = λ rest more. record { symbol = refl; caret = refl };
 }
 
@@ -213,48 +213,48 @@ at_prints = record {
 
 pub slash_prints : Prints Starts (codes "/") (sign 47 ∷ [])
 slash_prints = record {
-  lexes = λ rest more s l. lex_sign 47 rest more (slash_taken rest s.symbol) s.caret l;
+  lexes = λ rest more s l. lex_sign 47 rest more false (slash_taken rest s.symbol) s.caret l;
   starts = λ rest more. record { symbol = refl; caret = refl };
 }
 
 pub open_brace_prints : Prints Starts (codes "{") (sign 123 ∷ [])
 open_brace_prints = record {
-  lexes = λ rest more s l. lex_sign 123 rest more (open_brace_taken rest) s.caret l;
+  lexes = λ rest more s l. lex_sign 123 rest more false (open_brace_taken rest) s.caret l;
   starts = λ rest more. record { symbol = refl; caret = refl };
 }
 
 pub close_brace_prints : Prints Starts (codes "}") (sign 125 ∷ [])
 close_brace_prints = record {
-  lexes = λ rest more s l. lex_sign 125 rest more (close_brace_taken rest) s.caret l;
+  lexes = λ rest more s l. lex_sign 125 rest more false (close_brace_taken rest) s.caret l;
   starts = λ rest more. record { symbol = refl; caret = refl };
 }
 
 pub comma_prints : Prints Starts (codes ",") (sign 44 ∷ [])
 comma_prints = record {
-  lexes = λ rest more s l. lex_sign 44 rest more (comma_taken rest) s.caret l;
+  lexes = λ rest more s l. lex_sign 44 rest more false (comma_taken rest) s.caret l;
   starts = λ rest more. record { symbol = refl; caret = refl };
 }
 
 pub comma_space_prints : Prints Starts (codes ", ") (sign 44 ∷ [])
 comma_space_prints = record {
-  lexes = λ rest more s l. lex_sign 44 _ more (comma_taken _) s.caret (lex_space rest more l);
+  lexes = λ rest more s l. lex_sign 44 _ more false (comma_taken _) s.caret (lex_space rest more l);
   starts = λ rest more. record { symbol = refl; caret = refl };
 }
 
 pub semicolon_prints : Prints Starts (codes "; ") (sign 59 ∷ [])
 semicolon_prints = record {
-  lexes = λ rest more s l. lex_sign 59 _ more (semicolon_taken _) s.caret (lex_space rest more l);
+  lexes = λ rest more s l. lex_sign 59 _ more false (semicolon_taken _) s.caret (lex_space rest more l);
   starts = λ rest more. record { symbol = refl; caret = refl };
 }
 
 pub opens_prints : Prints Starts (codes ": [") (sign 58 ∷ sign 91 ∷ [])
 opens_prints = record {
-  lexes = λ rest more s l. lex_sign 58 _ _ (colon_taken _) refl (lex_space _ _ (lex_sign 91 rest more (open_square_taken rest) s.caret l));
+  lexes = λ rest more s l. lex_sign 58 _ _ false (colon_taken _) refl (lex_space _ _ (lex_sign 91 rest more false (open_square_taken rest) s.caret l));
   starts = λ rest more. record { symbol = refl; caret = refl };
 }
 
 pub closes_prints : Prints Starts (codes "].\n") (sign 93 ∷ sign 46 ∷ [])
 closes_prints = record {
-  lexes = λ rest more s l. lex_sign 93 _ _ (close_square_taken _) refl (lex_sign 46 _ more (dot_taken _) s.caret (lex_line_feed rest more l));
+  lexes = λ rest more s l. lex_sign 93 _ _ false (close_square_taken _) refl (lex_sign 46 _ more false (dot_taken _) s.caret (lex_line_feed rest more l));
   starts = λ rest more. record { symbol = refl; caret = refl };
 }
