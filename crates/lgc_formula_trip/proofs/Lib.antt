@@ -1,0 +1,12 @@
+pub mod Cuts
+pub mod Written
+pub mod Tokens
+pub mod Binders
+pub mod Roles
+pub mod WritableLaws
+pub mod TermTexts
+pub mod FormulaTexts
+pub mod WholeTexts
+pub mod WordTokens
+pub mod ReadNames
+pub mod ReadFormulas
