@@ -1,0 +1,10 @@
+pub mod Values
+pub mod Goals
+pub mod QueryGrammar
+pub mod PlainQueries
+pub mod QueryReading
+pub mod QueryFile
+pub mod QueryPlace
+pub mod FileReading
+pub mod Limits
+pub mod QueryText
