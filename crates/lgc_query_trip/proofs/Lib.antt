@@ -1,0 +1,5 @@
+pub mod Signs
+pub mod ValueTexts
+pub mod Rows
+pub mod QueryTexts
+pub mod WholeQueries

@@ -1,0 +1,2 @@
+pub mod WritableQueries
+pub mod QueryReadBack
