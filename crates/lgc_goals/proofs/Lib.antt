@@ -1,3 +1,4 @@
 pub mod Tuples
 pub mod TruthValues
 pub mod Truth
+pub mod PlacedGoals

@@ -1,5 +1,5 @@
 // The goals of a query.
-ghost use Rattle.std.specs.Prelude.{◌≡◌, ◌≤◌, ◌^◌, ◌+◌, [], ◌∷◌, length, slice_index, IfOk, OnOk};
+ghost use Rattle.std.specs.Prelude.{◌≡◌, ◌<◌, ◌≤◌, ◌^◌, ◌+◌, [], ◌∷◌, length, slice_get, slice_index, Some, IfOk, OnOk};
 ghost use Rattle.std.specs.List.{fold, flat_map, zip};
 ghost use Rattle.lgc_values.specs.Values.{IsSize};
 ghost use Rattle.lgc_values.specs.Logic.{arguments_at};
@@ -36,6 +36,55 @@ pub fn goals<const N: usize>(
 {
     let _operators = m.operators();
     goals_by_kind(alloc, q)
+}
+
+/// How many goals a query has: a mixed entailment one, an equation as many as there are truth values, and a quasi-equation as many as
+/// there are ways to choose a truth value for each of its equations.
+#[tactic(auto, using(crate::proofs::Tuples::few_equations))]
+pub fn goal_count<const N: usize>(m: &Matrix<N>, q: &Query) -> u32
+    requires { goal_count N q.now ≤ MOST_GOALS }
+    ensures { result ≡ goal_count N q.now }
+{
+    let _operators = m.operators();
+    match q {
+        Query::Mixed { .. } => 1,
+        Query::Equation(_) => N as u32,
+        Query::Quasi { premises, .. } => (N as u32).pow(premises.items().len() as u32 + 1),
+    }
+}
+
+/// The goal of a query at a place among its goals, counted from 0. So the goals are made one at a time where all would take much memory.
+pub fn goal_at<const N: usize>(
+    alloc: Global,
+    m: &Matrix<N>,
+    q: &Query,
+    place: u32,
+) -> Result<Sequent<N>, AllocError>
+    requires sets { HasSetsBelow N q.now }
+    requires few { goal_count N q.now ≤ MOST_GOALS }
+    requires within { place < goal_count N q.now }
+    ensures { IfOk result (λ goal. slice_get (goals_of N q.now) place ≡ Some goal) }
+{
+    let _operators = m.operators();
+    match q {
+        Query::Mixed {
+            given,
+            wanted,
+            premises,
+            conclusions,
+        } => goal_of_mixed(
+            alloc,
+            ValueSet::of_mask(*given),
+            ValueSet::of_mask(*wanted),
+            premises.items(),
+            conclusions.items(),
+        ),
+        Query::Equation(pair) => goal_of_quasi(alloc, List::new(alloc).items(), pair, place),
+        Query::Quasi {
+            premises,
+            conclusion,
+        } => goal_of_quasi(alloc, premises.items(), conclusion, place),
+    }
 }
 
 // The goals of a query, by its kind.

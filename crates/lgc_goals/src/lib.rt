@@ -2,6 +2,7 @@
 //!
 //! - [`goals`] makes the goals of a query: sequents that are all true exactly where the query is satisfied. So a query is decided by
 //!   deciding its goals.
+//! - [`goal_count`] tells how many goals it has, and [`goal_at`] makes the one at a place.
 //!
 //! The call's contract gives its result exactly, and says besides that it stands for the query: whatever truth values formulas have, under
 //! every valuation, and in every structure under every assignment. `specs/Goals.antt` says which sequents the goals of a query are and how
@@ -14,7 +15,7 @@
 
 mod goal;
 
-pub use goal::goals;
+pub use goal::{goal_at, goal_count, goals};
 
-/// The greatest number of goals of a query for which they are made.
-pub const MOST_GOALS: usize = 4096;
+/// The greatest number of goals of a query that is read, and for which they are made.
+pub const MOST_GOALS: u32 = 4_096;

@@ -3,7 +3,7 @@ use Rattle.std.proofs.Common.{◌≡◌, ◌≤◌, ◌<◌, ◌+◌, ◌*◌, �
 use Rattle.std.specs.Prelude.{nat_lt}
 use Rattle.std.proofs.lemmas.Bool.{lt-ltb}
 use Rattle.std.proofs.Math.Nat.{mul_assoc, pow-succ', le-mul_of_pos_right, one-le-pow}
-use Rattle.lgc_queries.specs.declared.TheConstants.{MOST_GOALS}
+use Rattle.lgc_goals.specs.declared.TheConstants.{MOST_GOALS}
 
 -- one factor before others
 pub factor_before : (n k : ℕ) → n * n ^ k ≡ n ^ (k + 1)

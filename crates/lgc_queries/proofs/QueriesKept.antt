@@ -31,8 +31,9 @@ use Rattle.lgc_formulas.proofs.FormulasKept.{AreKnown, known_front, known_behind
 use Rattle.lgc_queries.specs.declared.read.EquationRead.{EquationRead}
 use Rattle.lgc_queries.specs.declared.read.Equations.{Equations}
 use Rattle.lgc_queries.specs.declared.read.QueryRead.{QueryRead}
-use Rattle.lgc_queries.specs.declared.TheConstants.{MOST_GOALS}
-use Rattle.lgc_queries.specs.Goals.{goal_count, has_too_many_goals}
+use Rattle.lgc_goals.specs.declared.TheConstants.{MOST_GOALS}
+use Rattle.lgc_goals.specs.Goals.{goal_count}
+use Rattle.lgc_queries.specs.Goals.{has_too_many_goals}
 use Rattle.lgc_queries.specs.QueryGrammar.{no_formulas, no_equations, entailment, mixed_entailment, quasi_equation, AddedValue, NextValue, SomeValues, ValueSet, SignBehind, Premises, EquationPhrase, CommaEquation, EquationList, EquationPremises, EntailQuery, MixedQuery, EquationQuery, QuasiQuery, OneQuery, file_setting, QueryEnd, NextQuery, Queries}
 use Rattle.lgc_queries.specs.Limits.{HasConclusion, IsQueryFor, IsFileQuery}
 

@@ -8,8 +8,8 @@ use Rattle.lgc_meaning.specs.declared.query.Query.TheVariants.{Mixed, Equation, 
 use Rattle.lgc_meaning.specs.Queries.{formulas_of, FitsQuery, IsPropositional}
 use Rattle.lgc_formulas.specs.declared.formula.TheConstants.{MOST_DEPTH, MOST_NODES}
 use Rattle.lgc_formulas.specs.Setting.{Setting}
-use Rattle.lgc_queries.specs.declared.TheConstants.{MOST_GOALS}
-use Rattle.lgc_queries.specs.Goals.{goal_count}
+use Rattle.lgc_goals.specs.declared.TheConstants.{MOST_GOALS}
+use Rattle.lgc_goals.specs.Goals.{goal_count}
 use Rattle.lgc_queries.specs.QueryGrammar.{file_setting}
 
 -- a mixed entailment has a conclusion

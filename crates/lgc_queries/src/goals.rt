@@ -1,10 +1,10 @@
 // How many goals a query has.
 ghost use Rattle.std.specs.Prelude.{◌≡◌, ◌+◌, ◌^◌, nat_lt};
 ghost use Rattle.lgc_values.specs.Values.{IsSize};
+ghost use Rattle.lgc_goals.specs.declared.TheConstants.{MOST_GOALS};
 ghost use Rattle.lgc_queries.specs.Goals.{has_too_many_goals};
-ghost use Rattle.lgc_queries.specs.declared.TheConstants.{MOST_GOALS};
 
-use crate::MOST_GOALS;
+use lgc_goals::MOST_GOALS;
 use lgc_meaning::Query;
 use lgc_values::Matrix;
 

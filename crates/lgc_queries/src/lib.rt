@@ -6,7 +6,7 @@
 //! - A [`QueryRead`] is a query that was read, with what the text around it has to know. [`EquationRead`] and [`Equations`] are the same of
 //!   equations.
 //! - [`write_query`] puts the text of a query behind other bytes.
-//! - [`LONGEST_FILE`] and [`MOST_GOALS`] are the limits of query files and of queries.
+//! - [`LONGEST_FILE`] is the limit of query files. That of a query's goals is `MOST_GOALS` of `lgc_goals`.
 //!
 //! `specs/QueryGrammar.antt` is the grammar of queries. It says which trees the texts have that break no rule, and which rule a token
 //! breaks; `specs/PlainQueries.antt` has the same lines without rules. The readers, in `specs/QueryReading.antt`, follow the grammar
@@ -43,6 +43,3 @@ pub use text::write_query;
 
 /// The greatest length of a query file, in bytes.
 pub const LONGEST_FILE: u32 = 1_048_576;
-
-/// The greatest number of goals of a query that is read.
-pub const MOST_GOALS: u32 = 4_096;

@@ -12,9 +12,11 @@ use Rattle.lgc_formulas.specs.declared.formula.TheConstants.{MOST_NODES}
 use Rattle.lgc_formulas.specs.Named.{Named, named_all, is as is_of}
 use Rattle.lgc_formulas.specs.Setting.{Setting}
 use Rattle.lgc_formulas.specs.FormulaTexts.{text_setting}
-use Rattle.lgc_queries.specs.declared.TheConstants.{MOST_GOALS, LONGEST_FILE}
+use Rattle.lgc_queries.specs.declared.TheConstants.{LONGEST_FILE}
+use Rattle.lgc_goals.specs.declared.TheConstants.{MOST_GOALS}
 use Rattle.lgc_queries.specs.declared.read.QueryRead.{QueryRead}
-use Rattle.lgc_queries.specs.Goals.{goal_count, has_too_many_goals}
+use Rattle.lgc_goals.specs.Goals.{goal_count}
+use Rattle.lgc_queries.specs.Goals.{has_too_many_goals}
 use Rattle.lgc_queries.specs.QueryGrammar.{OneQuery, QueryBefore, QueryEnd, NextQuery, Queries, file_setting}
 use Rattle.lgc_queries.specs.QueryPlace.{whole_query}
 use Rattle.lgc_queries.specs.QueryText.{query_text}

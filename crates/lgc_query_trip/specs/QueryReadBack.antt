@@ -7,8 +7,9 @@ use Rattle.lgc_inputs.specs.Texts.{IsTextOf}
 use Rattle.lgc_formulas.specs.declared.formula.TheConstants.{MOST_NODES}
 use Rattle.lgc_formulas.specs.Named.{named_all}
 use Rattle.lgc_formulas.specs.FormulaTexts.{text_setting}
-use Rattle.lgc_queries.specs.declared.TheConstants.{LONGEST_FILE, MOST_GOALS}
-use Rattle.lgc_queries.specs.Goals.{goal_count}
+use Rattle.lgc_goals.specs.declared.TheConstants.{MOST_GOALS}
+use Rattle.lgc_queries.specs.declared.TheConstants.{LONGEST_FILE}
+use Rattle.lgc_goals.specs.Goals.{goal_count}
 use Rattle.lgc_queries.specs.QueryGrammar.{OneQuery}
 use Rattle.lgc_queries.specs.QueryPlace.{whole_query}
 use Rattle.lgc_queries.specs.QueryFile.{IsFileOf}

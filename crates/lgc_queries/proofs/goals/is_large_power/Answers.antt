@@ -1,6 +1,6 @@
 use Rattle.std.proofs.Common.{◌≡◌, ◌*◌, ◌-◌, ℕ, suc, true, sym, subst, ◌∙◌, arith}
 use Rattle.std.specs.Prelude.{nat_lt}
-use Rattle.lgc_queries.specs.declared.TheConstants.{MOST_GOALS}
+use Rattle.lgc_goals.specs.declared.TheConstants.{MOST_GOALS}
 use Rattle.lgc_queries.proofs.Powers.{factor_before, factor_moves, stays_large}
 use Rattle.lgc_queries.proofs.goals.is_large_power.Goals as goal
 

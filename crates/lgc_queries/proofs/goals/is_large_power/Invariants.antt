@@ -1,5 +1,5 @@
 use Rattle.std.proofs.Common.{◌≡◌, ◌≤◌, ◌+◌, ◌*◌, ◌^◌}
-use Rattle.lgc_queries.specs.declared.TheConstants.{MOST_GOALS}
+use Rattle.lgc_goals.specs.declared.TheConstants.{MOST_GOALS}
 use Rattle.lgc_queries.proofs.goals.is_large_power.Given as goal
 
 abbrev pub invariant-loop-left : goal.invariant-loop-left
