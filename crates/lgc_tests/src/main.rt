@@ -1,4 +1,4 @@
-//! The runs of the program, as tables of texts: what the top call has to answer, worked out by hand.
+//! The runs of the program, and the answers of calls on formulas and queries, as tables of texts that were worked out by hand.
 //!
 //! Each file under `data/` is a table. A line that begins with `== ` begins a section:
 //!
@@ -12,11 +12,18 @@
 //! - `== out NUMBER` and `== err NUMBER`: the run ends with this number, and the lines behind it are what it puts to the output
 //!   or to the standard error. The other one stays empty.
 //!
+//! - `== lets`: the formulas of the lines behind it have the numbers from 1 on, each read where those before it have theirs.
+//! - `== formula`, `== numbered`, `== term`, `== instance`, `== query`, `== numbered_query`, `== queries`, `== goals`, `== atoms` and
+//!   `== refutations`: each line behind it is a text, ` => `, and what a call answers to it, as `src/asked.rt` tells. The text is read
+//!   against `l.lgc`, which has three truth values there; the text `r.txt` stands for the bytes of that file. An answer may be
+//!   `fault NUMBER at OFFSET`.
+//!
 //! The line feed before a section's line isn't part of the section before it. What a run puts ends with a line feed, unless its
-//! put failed. The program prints for each table how many runs it has, and each run that ends otherwise. What tables can't say
+//! put failed. The program prints for each table how many runs and answers it has, and each that is otherwise. What tables can't say
 //! stands in `tests.rt`.
 #![tactic(auto)]
 
+mod asked;
 mod table;
 #[cfg(test)]
 mod tests;
@@ -24,12 +31,14 @@ mod tests;
 use std::{fs, io};
 use table::Table;
 
-const TABLES: [&str; 5] = [
+const TABLES: [&str; 7] = [
     "commands.txt",
     "calculus.txt",
     "spec_faults.txt",
     "verdicts.txt",
     "input_faults.txt",
+    "formulas.txt",
+    "queries.txt",
 ];
 
 // Makes the runs of the table in this file.

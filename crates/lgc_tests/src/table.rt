@@ -1,17 +1,20 @@
 // One table of runs: what its sections tell, and whether a run ends as they say.
 ghost use Rattle.std.specs.Prelude.{◌≡◌, IfOk, [], ◌∷◌, codes};
 
+use crate::asked::{Asked, asked_of, formula_of, matrix, written};
 use lgc_io::{MemoryFiles, MemorySink};
+use lgc_syntax::{Formula, InputFault};
 use lgc_top::{exit_number, run_multlog};
 use lgc_values::{List, Name};
 use std::alloc::{AllocError, Global};
 
-/// What a table has told so far: the bytes of the files `l.lgc` and `r.txt`, and the next run.
+/// What a table has told so far: the bytes of the files `l.lgc` and `r.txt`, the formulas that have numbers, and the next run.
 #[derive(Drop)]
 pub(crate) struct Table {
     alloc: Global,
     spec: Vec<u8>,
     input: Vec<u8>,
+    lets: List<Formula>,
     words: Vec<String>,
     failing: Option<u64>,
     room: Option<usize>,
@@ -24,6 +27,7 @@ impl Table {
             alloc,
             spec: Vec::new(alloc),
             input: Vec::new(alloc),
+            lets: List::new(alloc),
             words: Vec::new(alloc),
             failing: None,
             room: None,
@@ -49,7 +53,11 @@ impl Table {
             "run" => self.set_words(line.strip_prefix("run ")),
             "out" => self.ends(rest, lines, ""),
             "err" => self.ends(rest, "", lines),
-            _ => Ok(false),
+            "lets" => self.set_lets(lines),
+            _ => match asked_of(kind) {
+                Some(asked) => self.answers(asked, lines),
+                None => Ok(false),
+            },
         }
     }
 
@@ -85,6 +93,45 @@ impl Table {
         Ok(true)
     }
 
+    // Numbers the formulas of these lines.
+    fn set_lets(&mut self, lines: &str) -> Result<bool, AllocError> {
+        self.lets = List::new(self.alloc);
+        let Some(m) = matrix(self.alloc, &self.spec)? else {
+            return Ok(false);
+        };
+        for line in lines.lines() {
+            match formula_of(self.alloc, &m, self.lets.items(), line.as_bytes()) {
+                Ok(parsed) => self.lets.push(parsed.formula)?,
+                Err(InputFault::Memory) => return Err(AllocError),
+                Err(_) => return Ok(false),
+            }
+        }
+        Ok(true)
+    }
+
+    // Whether each line has a text and its answer.
+    fn answers(&mut self, asked: Asked, lines: &str) -> Result<bool, AllocError> {
+        let Some(m) = matrix(self.alloc, &self.spec)? else {
+            return Ok(false);
+        };
+        for line in lines.lines() {
+            self.runs = self.runs.saturating_add(1);
+            let (text, answer) = line.split_once(" => ").unwrap_or((line, ""));
+            let bytes = bytes_of_row(text, &self.input);
+            let found = match written(self.alloc, &m, self.lets.items(), asked, bytes) {
+                Ok(found) => found,
+                Err(InputFault::Fault { number, offset }) => {
+                    format!(in self.alloc; "fault {number} at {offset}")?.into_bytes()
+                }
+                Err(InputFault::Memory) => return Err(AllocError),
+            };
+            if found.as_slice() != answer.as_bytes() {
+                return Ok(false);
+            }
+        }
+        Ok(true)
+    }
+
     // Makes the run. Whether it ends with this number, and these lines stand in the two sinks.
     fn ends(&mut self, number: &str, out: &str, err: &str) -> Result<bool, AllocError> {
         let alloc = self.alloc;
@@ -102,6 +149,15 @@ impl Table {
                 && is_put(output.bytes(), out, whole)
                 && is_put(error.bytes(), err, whole),
         )
+    }
+}
+
+// The bytes that a row asks about: its text, or those of the second file, if the text is the file's name.
+fn bytes_of_row<'a>(text: &'a str, input: &'a [u8]) -> &'a [u8] {
+    if text == "r.txt" {
+        input
+    } else {
+        text.as_bytes()
     }
 }
 
