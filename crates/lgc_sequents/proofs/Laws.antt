@@ -32,7 +32,7 @@ pub has_all_test : (result : Bool) (n : ℕ) (set : List ℕ) → Decides result
 has_all_test result n set decides = same_from_decides result (has_all n set) decides (none_missing (has set) (range_with_len 0 n))
 
 -- what is true of all members is true of each
-list_all-has : (p : ℕ → Bool) (set : List ℕ) (v : ℕ) → list_all p set ≡ true → has set v ≡ true → p v ≡ true
+pub list_all-has : (p : ℕ → Bool) (set : List ℕ) (v : ℕ) → list_all p set ≡ true → has set v ≡ true → p v ≡ true
 list_all-has p [] v all member = cc
 list_all-has p (w ∷ set) v all member =
     let parts = and_parts (p w) (list_all p set) all in

@@ -1,2 +1,5 @@
 pub mod Signed
 pub mod Sequents
+pub mod Lines
+pub mod Steps
+pub mod Rests

@@ -1,12 +1,12 @@
 // Sequents.
-ghost use Rattle.std.specs.Prelude.{◌≡◌, [], ◌||◌, ℕ, true, IsTrue, IsFalse, OnOk, OnErr};
+ghost use Rattle.std.specs.Prelude.{◌≡◌, [], ◌||◌, ℕ, true, IsTrue, IsFalse, IfOk, OnOk, OnErr};
 ghost use Rattle.lgc_values.specs.Values.{IsSize, has};
 ghost use Rattle.lgc_syntax.specs.declared.formula.Formula.{Formula};
 ghost use Rattle.lgc_syntax.specs.Equality.{same_formula};
 ghost use Rattle.lgc_sequents.specs.Sequents.{IsSequent, sign_in, occurs, joined, added, is_included, has_all, is_axiom, is_true_at, HasValues};
 
 use crate::Signed;
-use lgc_syntax::{Formula, same_formula};
+use lgc_syntax::{Formula, copy_formula, same_formula};
 use lgc_values::ValueSet;
 use std::alloc::{AllocError, Global};
 use std::marker::Model;
@@ -109,6 +109,33 @@ impl<const N: usize> Sequent<N> {
         }
         false
     }
+}
+
+/// A copy of a sequent.
+pub fn copy_sequent<const N: usize>(
+    alloc: Global,
+    sequent: &Sequent<N>,
+) -> Result<Sequent<N>, AllocError>
+    ensures { IfOk result (λ copy. copy ≡ sequent.now) }
+{
+    let items = copy_items(alloc, sequent.items())?;
+    Ok(Sequent { items })
+}
+
+fn copy_items<const N: usize>(
+    alloc: Global,
+    items: &[Signed<N>],
+) -> Result<Vec<Signed<N>>, AllocError>
+    ensures { IfOk result (λ copies. copies.items ≡ items.now) }
+{
+    let mut copies = Vec::new(alloc);
+    for item in items {
+        copies.push(Signed {
+            formula: copy_formula(alloc, &item.formula)?,
+            sign: item.sign,
+        })?;
+    }
+    Ok(copies)
 }
 
 // Joins a sign to that of a formula, and tells whether the formula occurs.
