@@ -1,1 +1,3 @@
 pub mod RuleLists
+pub mod ArgumentLaws
+pub mod BookLaws
