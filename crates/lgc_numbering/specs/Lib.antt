@@ -1,0 +1,4 @@
+pub mod Numbering
+pub mod Subformulas
+pub mod Keys
+pub mod Store
