@@ -1,0 +1,9 @@
+pub mod Rising
+pub mod Marks
+pub mod Weights
+pub mod ClauseLaws
+pub mod InclusionLaws
+pub mod PackLaws
+pub mod SequentLaws
+pub mod Truth
+pub mod Same
