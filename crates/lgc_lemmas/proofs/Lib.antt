@@ -1,0 +1,4 @@
+pub mod Truth
+pub mod StepLaws
+pub mod Refuting
+pub mod Citations

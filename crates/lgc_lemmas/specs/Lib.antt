@@ -1,0 +1,5 @@
+pub mod Plain
+pub mod Nodes
+pub mod Steps
+pub mod Answers
+pub mod Citations
