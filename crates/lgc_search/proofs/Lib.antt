@@ -1,0 +1,3 @@
+pub mod Opening
+pub mod Concluding
+pub mod LineSteps
