@@ -7,7 +7,7 @@ use Rattle.lgc_values.specs.Logic.{Logic, operator_at, row_count, arguments_at}
 use Rattle.lgc_clauses.specs.Rules.{some_in, clause_holds, OperatorRule, of_operator, Fits}
 use Rattle.lgc_clauses.specs.Exactness.{IsExact}
 use Rattle.lgc_syntax.specs.Values.{row_index}
-use Rattle.lgc_goals.proofs.Tuples.{arguments_at-row_index, row_index-below}
+use Rattle.lgc_syntax.proofs.IndexLaws.{arguments_at-row_index, row_index-below}
 use Rattle.lgc_calculus.specs.Arguments.{IsExactAtArguments}
 
 -- clauses at a row, and at its arguments

@@ -36,7 +36,7 @@ use Rattle.lgc_formulas.specs.Setting.{Setting, numbered}
 use Rattle.lgc_formulas.specs.Faults.{is_too_long, formula_fault}
 use Rattle.lgc_formulas.specs.TermGrammar.{Counted, Terms, TermPhrase}
 use Rattle.lgc_formulas.specs.FormulaGrammar.{as_whole, as_bare, with_formula, MoreOperands, Operands, BehindOperator, OperatorFormula, CloseQuantifier, QuantifierFormula, NumberedFormula, AtomFormula, FormulaPhrase}
-use Rattle.lgc_formula_trip.specs.Writable.{can_name_predicate, has_readable_term_names, has_readable_names}
+use Rattle.lgc_formulas.specs.Writable.{can_name_predicate, has_readable_term_names, has_readable_names}
 use Rattle.lgc_formula_trip.proofs.Cuts.{Lexeme, lexeme, sign, Anything, EndsWord, cut_open, cut_close, cut_comma}
 use Rattle.lgc_formula_trip.proofs.Written.{Written, written_then, written_first, written_behind, written_one, written_nothing, written_mapped, written_left, written_right, written_weaker, written_text, written_tree, written_seen}
 use Rattle.lgc_formula_trip.proofs.Tokens.{NamedAs, SpelledAs, is_open, is_close, is_comma, is_upper, is_lower_name, cut_binder, cut_lower, IsSymbol, symbol}

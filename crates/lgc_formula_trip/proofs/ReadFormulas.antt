@@ -24,7 +24,7 @@ use Rattle.lgc_formulas.specs.TermGrammar.{TermPhrase}
 use Rattle.lgc_formulas.specs.FormulaTexts.{text_setting, IsFormulaText}
 use Rattle.lgc_formulas.proofs.TermsKept.{all_push, all_pass}
 use Rattle.lgc_formulas.proofs.FormulasKept.{named_known, FormulaKept, formula_kept}
-use Rattle.lgc_formula_trip.specs.Writable.{has_readable_term_names, has_readable_names, IsWritable}
+use Rattle.lgc_formulas.specs.Writable.{has_readable_term_names, has_readable_names, IsWritable}
 use Rattle.lgc_formula_trip.proofs.WritableLaws.{names-Atom, names-Op, names-Quant}
 use Rattle.lgc_formula_trip.proofs.WordTokens.{IsFormed, tokens_formed, IsFormedIn, named_formed, each_front, each_behind}
 use Rattle.lgc_formula_trip.proofs.ReadNames.{AreReadable, terms_readable, term_readable}

@@ -13,7 +13,7 @@ use Rattle.lgc_formulas.specs.Scopes.{bound_in, is_reserved}
 use Rattle.lgc_formulas.specs.Faults.{first_broken, is_too_long, is_bound, is_free, term_fault}
 use Rattle.lgc_formulas.specs.TermGrammar.{Counted, with_term, variable_by, variable, CommaTerm, Terms, TermPhrase}
 use Rattle.lgc_formulas.proofs.TermsKept.{all_push, all_pass}
-use Rattle.lgc_formula_trip.specs.Writable.{has_readable_term_names}
+use Rattle.lgc_formulas.specs.Writable.{has_readable_term_names}
 use Rattle.lgc_formula_trip.proofs.WritableLaws.{names-Bound, names-Free, names-Apply}
 use Rattle.lgc_formula_trip.proofs.WordTokens.{IsFormed, each_front, each_behind}
 

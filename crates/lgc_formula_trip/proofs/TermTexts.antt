@@ -22,7 +22,7 @@ use Rattle.lgc_print.proofs.FormulaTextLaws.{text-Bound, text-Free, text-Apply}
 use Rattle.lgc_formulas.specs.Faults.{is_too_long, term_fault}
 use Rattle.lgc_formulas.specs.Scopes.{bound_in, is_reserved}
 use Rattle.lgc_formulas.specs.TermGrammar.{Counted, with_term, variable, NextTerm, CommaTerm, SomeTerms, Terms, Application, Variable, TermPhrase}
-use Rattle.lgc_formula_trip.specs.Writable.{is_upper_word, can_name_function, has_readable_term_names}
+use Rattle.lgc_formulas.specs.Writable.{is_upper_word, can_name_function, has_readable_term_names}
 use Rattle.lgc_formula_trip.proofs.Cuts.{lexeme, sign, EndsWord, Cut, cut_open, cut_close, cut_comma}
 use Rattle.lgc_formula_trip.proofs.Written.{Written, written_then, written_first, written_behind, written_one, written_nothing, written_mapped, written_left, written_right, written_ended, written_grown, written_text, written_tree}
 use Rattle.lgc_formula_trip.proofs.Tokens.{SpelledAs, class_seen, is_open, is_close, is_comma, is_upper, is_lower_name, cut_upper, cut_binder, cut_lower}

@@ -22,7 +22,7 @@ use Rattle.lgc_round_trip.proofs.Lexing.{words_in}
 use Rattle.lgc_round_trip.proofs.Pieces.{kind_at}
 use Rattle.lgc_round_trip.proofs.Decimals.{decimal_is_word}
 use Rattle.lgc_round_trip.proofs.Printing.{lower_is_word}
-use Rattle.lgc_formula_trip.specs.Writable.{is_upper_word}
+use Rattle.lgc_formulas.specs.Writable.{is_upper_word}
 use Rattle.lgc_formula_trip.proofs.Cuts.{Lexeme, lexeme, lexeme_of, sign, Anything, EndsWord, Cut, cut_weaker, cut_word, cut_quoted}
 use Rattle.lgc_formula_trip.proofs.Written.{Are}
 

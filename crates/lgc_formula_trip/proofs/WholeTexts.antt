@@ -17,7 +17,7 @@ use Rattle.lgc_formulas.specs.TermGrammar.{OneTerm}
 use Rattle.lgc_formulas.specs.FormulaGrammar.{as_whole, OneFormula, WholeFormula}
 use Rattle.lgc_formulas.specs.FormulaTexts.{text_setting, TextFormula, LoneTerm}
 use Rattle.lgc_round_trip.proofs.Lexing.{Lexes, words_in, lex_end, lexes_whole}
-use Rattle.lgc_formula_trip.specs.Writable.{IsWritableTerm, IsWritable}
+use Rattle.lgc_formulas.specs.Writable.{IsWritableTerm, IsWritable}
 use Rattle.lgc_formula_trip.specs.ReadBack.{IsReadAsFormula, IsReadAsTerm}
 use Rattle.lgc_formula_trip.proofs.Cuts.{Lexeme, lexeme_of, EndsWord}
 use Rattle.lgc_formula_trip.proofs.Written.{Are, Written, written_mapped}

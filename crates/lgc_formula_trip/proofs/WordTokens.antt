@@ -23,7 +23,7 @@ use Rattle.lgc_tokens.proofs.Tables.{off}
 use Rattle.lgc_tokens.proofs.LowerWords.{word_is_lower}
 use Rattle.lgc_print.specs.Text.{is_lower_word}
 use Rattle.lgc_formulas.specs.Named.{Named, named_all, role_of}
-use Rattle.lgc_formula_trip.specs.Writable.{is_upper_word}
+use Rattle.lgc_formulas.specs.Writable.{is_upper_word}
 
 -- ---- which kinds a term begins with
 

@@ -13,7 +13,7 @@ use Rattle.lgc_syntax.proofs.Lists.{each_passing}
 use Rattle.lgc_syntax.proofs.FitsLaws.{term_fits-Free, term_fits-Apply}
 use Rattle.lgc_syntax.proofs.VariableLaws.{has_no_bound-Bound, has_no_bound-Apply}
 use Rattle.lgc_formulas.proofs.TermsKept.{all_pass}
-use Rattle.lgc_formula_trip.specs.Writable.{can_name_variable, can_name_function, can_name_predicate, has_readable_term_names, term_names_layer, has_readable_names, names_layer}
+use Rattle.lgc_formulas.specs.Writable.{can_name_variable, can_name_function, can_name_predicate, has_readable_term_names, term_names_layer, has_readable_names, names_layer}
 
 pub names-Bound : (limited : Bool) (i : ℕ) → has_readable_term_names limited (Bound i) ≡ true
 unfolding has_readable_term_names

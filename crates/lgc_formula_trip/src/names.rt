@@ -2,7 +2,7 @@
 ghost use Rattle.std.specs.Prelude.{◌≡◌, ℕ, List, true, false};
 ghost use Rattle.std.specs.List.{list_all};
 ghost use Rattle.lgc_formulas.specs.FormulaTexts.{IsFormulaText};
-ghost use Rattle.lgc_formula_trip.specs.Writable.{is_upper_word, can_name_predicate, has_readable_term_names, has_readable_names};
+ghost use Rattle.lgc_formulas.specs.Writable.{is_upper_word, can_name_predicate, has_readable_term_names, has_readable_names};
 
 use lgc_formulas::is_reserved;
 use lgc_print::{has_word_bytes, is_lower_word};

@@ -2,7 +2,7 @@
 ghost use Rattle.std.specs.Prelude.{◌≡◌, false, IfOk};
 ghost use Rattle.lgc_print.specs.FormulaText.{term_text, formula_text};
 ghost use Rattle.lgc_formulas.specs.declared.formula.TheConstants.{MOST_NODES};
-ghost use Rattle.lgc_formula_trip.specs.Writable.{IsWritableTerm, IsWritable};
+ghost use Rattle.lgc_formulas.specs.Writable.{IsWritableTerm, IsWritable};
 ghost use Rattle.lgc_formula_trip.specs.ReadBack.{IsReadAsFormula, IsReadAsTerm};
 
 use lgc_print::{write_formula, write_term};

@@ -12,3 +12,4 @@ pub mod HeadReading
 pub mod FormulaPlaces
 pub mod FormulaTexts
 pub mod Limits
+pub mod Writable

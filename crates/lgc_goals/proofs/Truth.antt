@@ -28,7 +28,7 @@ use Rattle.lgc_meaning.specs.Queries.{sides, formulas_of, holds_at, satisfies}
 use Rattle.lgc_goals.specs.Goals.{goal_count, complement, each_signed, with_signed, sequent_of, premise_items, conclusion_items, quasi_goal, quasi_goals, goals_of}
 use Rattle.lgc_goals.specs.Truth.{AgreeAt, Agree, AgreeUnderValuations, AgreeInStructures}
 use Rattle.lgc_goals.proofs.TruthValues.{HasValues-value, HasValues-value_in}
-use Rattle.lgc_goals.proofs.Tuples.{length-arguments_at, arguments_below, arguments_at-row_index, row_index-below}
+use Rattle.lgc_syntax.proofs.IndexLaws.{length-arguments_at, arguments_below, arguments_at-row_index, row_index-below}
 
 -- what is true of each item of two lists in a row is true of each item of either
 each_left : {X : Type 0} (P : X → Type 0) (xs ys : List X) → AllByRecursion P (xs ++ ys) → AllByRecursion P xs

@@ -1,30 +1,19 @@
 -- Lists of formulas that grow by subformulas.
 use Rattle.std.proofs.Common.{ℕ, zero, suc, ◌≡◌, ◌+◌, ◌<◌, ◌≤◌, true, false, List, [], ◌∷◌, ◌++◌, Some, length, map, take, get_or, slice_get, refl, sym, ap, subst, ◌∙◌, arith}
-use Rattle.std.specs.List.{All, Any, Contains, list_any}
-use Rattle.std.proofs.lemmas.Bool.{or_parts}
+use Rattle.std.specs.List.{All, Any, Contains}
 use Rattle.std.proofs.lemmas.List.{append_assoc, append-nil, length-append, length-map, map-append, get_or-map, take_more}
 use Rattle.std.proofs.lemmas.List.Elements.{All-nil, All-push, All-append, All-weaker}
 use Rattle.std.proofs.lemmas.Option.{slice_get_within}
-use Rattle.lgc_syntax.specs.declared.formula.Formula.{Formula, Op, Quant}
-use Rattle.lgc_syntax.specs.Sizes.{has_quantifier}
-use Rattle.lgc_syntax.proofs.SizeLaws.{has_quantifier-Op, has_quantifier-Quant}
+use Rattle.lgc_syntax.specs.declared.formula.Formula.{Formula, Op}
+use Rattle.lgc_syntax.proofs.SubformulaLaws.{subformula_of_some}
 use Rattle.lgc_numbering.specs.declared.node.Node.{Node}
 use Rattle.lgc_numbering.specs.declared.node.Node.TheVariants as node
 use Rattle.lgc_numbering.specs.Numbering.{formula_at, AreNodesOf}
 use Rattle.lgc_numbering.specs.Store.{AreNumbersOf}
-use Rattle.lgc_numbering.specs.Subformulas.{IsSubformula, itself, of_argument, of_body, IsGrownBy}
+use Rattle.lgc_syntax.specs.Subformulas.{IsSubformula, itself, of_argument}
+use Rattle.lgc_numbering.specs.Growth.{IsGrownBy}
 use Rattle.lgc_numbering.proofs.Lists.{slice_get-left, map-alike}
 use Rattle.lgc_numbering.proofs.NumberingLaws.{formula_at-is, formula_at-left, formula_at-node}
-
--- a subformula of a subformula is one
-pub subformula_of_subformula : (f g h : Formula) → IsSubformula f g → IsSubformula g h → IsSubformula f h
-subformula_of_subformula f g _ part itself = part
-subformula_of_subformula f g _ part (of_argument op args a among later) = of_argument op args a among (subformula_of_subformula f g a part later)
-subformula_of_subformula f g _ part (of_body q body later) = of_body q body (subformula_of_subformula f g body part later)
-
--- one of an argument is one of the compound
-pub subformula_of_some : (op : ℕ) (args : List Formula) (f : Formula) → Any (IsSubformula f) args → IsSubformula f (Op op args)
-subformula_of_some op args f some = of_argument op args some.1 (some.0, some.2, some.3) some.4
 
 -- the argument of a compound is one of its subformulas, by their numbers
 pub argument_is_subformula : (formulas : List Formula) (nodes : List Node) (k op : ℕ) (args : List ℕ) → AreNodesOf formulas nodes → slice_get nodes k ≡ Some (node.Compound op args) → All (λ a. IsSubformula (formula_at formulas a) (formula_at formulas k)) args
@@ -71,17 +60,6 @@ numbers_more fs gs numbers f k are at = record {
 }
 
 -- ---- the walk over a formula
-
-pub arguments_propositional : (f : Formula) (op : ℕ) (args items : List Formula) → f ≡ Op op args → items ≡ args → has_quantifier f ≡ false → list_any has_quantifier items ≡ false
-arguments_propositional f op args items is same none = ap (list_any has_quantifier) same ∙ sym (has_quantifier-Op op args) ∙ ap has_quantifier (sym is) ∙ none
-
-pub quantified : (f : Formula) (q : ℕ) (body : Formula) → f ≡ Quant q body → has_quantifier f ≡ false → ⊥
-quantified f q body is none = let wrong : true ≡ false = sym (has_quantifier-Quant q body) ∙ ap has_quantifier (sym is) ∙ none in cc
-
-pub item_propositional : (fs : List Formula) (i : ℕ) (f : Formula) → i < length fs → f ≡ get_or fs i f → list_any has_quantifier fs ≡ false → has_quantifier f ≡ false
-item_propositional [] i f lt read none = absurd (omega arith)
-item_propositional (g ∷ fs) zero f lt read none = ap has_quantifier read ∙ (or_parts (has_quantifier g) (list_any has_quantifier fs) none).0
-item_propositional (g ∷ fs) (suc i) f lt read none = item_propositional fs i f (omega (arith, lt)) read (or_parts (has_quantifier g) (list_any has_quantifier fs) none).1
 
 pub grown_by_itself : (f : Formula) (fs gs : List Formula) → IsGrownBy (λ g. g ≡ f) fs gs → IsGrownBy (λ g. IsSubformula g f) fs gs
 grown_by_itself f fs gs = grown_as (λ g. g ≡ f) (λ g. IsSubformula g f) (λ g same. subst (λ h. IsSubformula h f) (sym same) itself) fs gs

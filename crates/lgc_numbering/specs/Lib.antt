@@ -1,4 +1,4 @@
 pub mod Numbering
-pub mod Subformulas
+pub mod Growth
 pub mod Keys
 pub mod Store

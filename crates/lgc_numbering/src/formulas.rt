@@ -4,7 +4,8 @@ ghost use Rattle.lgc_syntax.specs.Sizes.{has_quantifier};
 ghost use Rattle.lgc_numbering.specs.declared.node.Node.{Node};
 ghost use Rattle.lgc_numbering.specs.declared.node.Node.TheVariants as node;
 ghost use Rattle.lgc_numbering.specs.Numbering.{formula_of, IsNode, IsNumbering, AreNodesOf};
-ghost use Rattle.lgc_numbering.specs.Subformulas.{IsSubformula, IsGrownBy};
+ghost use Rattle.lgc_syntax.specs.Subformulas.{IsSubformula};
+ghost use Rattle.lgc_numbering.specs.Growth.{IsGrownBy};
 ghost use Rattle.lgc_numbering.specs.Keys.{key_of};
 
 use crate::Node;

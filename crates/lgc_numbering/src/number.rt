@@ -3,7 +3,8 @@ ghost use Rattle.std.specs.Prelude.{◌≡◌, Some, false, slice_get, IfOk};
 ghost use Rattle.std.specs.List.{list_any, Any};
 ghost use Rattle.lgc_syntax.specs.Sizes.{has_quantifier};
 ghost use Rattle.lgc_numbering.specs.Store.{AreNumbersOf};
-ghost use Rattle.lgc_numbering.specs.Subformulas.{IsSubformula, IsGrownBy};
+ghost use Rattle.lgc_syntax.specs.Subformulas.{IsSubformula};
+ghost use Rattle.lgc_numbering.specs.Growth.{IsGrownBy};
 
 use crate::Formulas;
 use lgc_syntax::Formula;

@@ -17,7 +17,8 @@ use Rattle.lgc_sequents.specs.Sequents.{IsSign, IsSequent, union, occurs, is_tru
 use Rattle.lgc_sequents.specs.Sequents as sequents
 use Rattle.lgc_sequents.proofs.Laws as sequent_laws
 use Rattle.lgc_numbering.specs.Numbering.{formula_at, IsNumbering}
-use Rattle.lgc_numbering.specs.Subformulas.{IsSubformula, IsGrownBy}
+use Rattle.lgc_syntax.specs.Subformulas.{IsSubformula}
+use Rattle.lgc_numbering.specs.Growth.{IsGrownBy}
 use Rattle.lgc_numbering.proofs.Lists.{map-alike}
 use Rattle.lgc_numbering.proofs.NumberingLaws.{formula_at-is, formula_at-left, one_number}
 use Rattle.lgc_numbering.proofs.GrowthLaws.{grown_as, grown_grown, grown_long}

@@ -38,7 +38,7 @@ fn sign_at<const N: usize>(pairs: &[(u64, ValueSet<N>)], number: u64, at: usize)
     }
 }
 
-/// The first place of a formula that carries all values, and None where there is none.
+/// A place of a formula that carries all values, and None where there is none.
 pub fn full_at<const N: usize>(packed: &Packed<N>) -> Option<usize>
     ensures { MatchOption result (is_full N packed.now ≡ false) (IsFullAt N packed.now) }
 {

@@ -3,7 +3,8 @@ ghost use Rattle.std.specs.Prelude.{◌≡◌, false, All, IfOk};
 ghost use Rattle.std.specs.List.{Any};
 ghost use Rattle.lgc_syntax.specs.Sizes.{has_quantifier};
 ghost use Rattle.lgc_numbering.specs.Numbering.{IsNumbering};
-ghost use Rattle.lgc_numbering.specs.Subformulas.{IsSubformula, IsGrownBy};
+ghost use Rattle.lgc_syntax.specs.Subformulas.{IsSubformula};
+ghost use Rattle.lgc_numbering.specs.Growth.{IsGrownBy};
 ghost use Rattle.lgc_packed.specs.Packed.{unpacked};
 ghost use Rattle.lgc_packed.specs.Packing.{AreKnown, IsPackOf, IsTrueAs};
 

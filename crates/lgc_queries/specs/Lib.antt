@@ -8,3 +8,4 @@ pub mod QueryPlace
 pub mod FileReading
 pub mod Limits
 pub mod QueryText
+pub mod WritableQueries

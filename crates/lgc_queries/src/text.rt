@@ -6,7 +6,7 @@ ghost use Rattle.lgc_meaning.specs.Queries.{sides, formulas_of, HasSetsBelow};
 ghost use Rattle.lgc_queries.specs.QueryText.{formulas_text, equation_text, equations_text, mask_text, turnstile_text, is_entailment, opening_text, query_text};
 
 use lgc_meaning::{Pair, Query};
-use lgc_print::{put_set, write_formula};
+use lgc_print::{put_formula, put_set};
 use lgc_syntax::Formula;
 use lgc_values::{Matrix, ValueSet};
 use std::alloc::{AllocError, Global};
@@ -24,7 +24,7 @@ fn put_formulas<const N: usize>(
     let mut separator: &[u8] = b"";
     for f in formulas {
         into.extend_from_slice(separator)?;
-        write_formula(alloc, m, f, into)?;
+        put_formula(alloc, m, f, 0, into)?;
         separator = b", ";
     }
     Ok(())
@@ -39,9 +39,9 @@ fn put_equation<const N: usize>(
     requires { All (λ f. depth f < 2 ^ 32) (sides pair.now) }
     ensures { OnOk result (into.new.items ≡ into.old.items ++ equation_text m.now pair.now) }
 {
-    write_formula(alloc, m, &pair.left, into)?;
+    put_formula(alloc, m, &pair.left, 0, into)?;
     into.extend_from_slice(b" = ")?;
-    write_formula(alloc, m, &pair.right, into)
+    put_formula(alloc, m, &pair.right, 0, into)
 }
 
 #[tactic(auto, using(std::proofs::lemmas::Grind::common_steps, lgc_print::proofs::TextLaws::joined_more, lgc_print::proofs::TextLaws::between_more))]

@@ -34,12 +34,12 @@ use Rattle.lgc_queries.specs.Limits.{HasConclusion}
 use Rattle.lgc_queries.specs.QueryPlace.{whole_query}
 use Rattle.lgc_queries.specs.QueryText.{formulas_text, equation_text, equations_text, mask_text, turnstile_text, is_entailment, query_text}
 use Rattle.lgc_round_trip.proofs.SetLaws.{set_of_members}
-use Rattle.lgc_formula_trip.specs.Writable.{has_readable_names}
+use Rattle.lgc_formulas.specs.Writable.{has_readable_names}
 use Rattle.lgc_formula_trip.proofs.Cuts.{Lexeme, lexeme, sign, Anything, EndsWord}
 use Rattle.lgc_formula_trip.proofs.Written.{Written, written_then, written_behind, written_mapped, written_left, written_right, written_text, written_tree, written_seen}
 use Rattle.lgc_formula_trip.proofs.Tokens.{NamedAs, SpelledAs, is_comma}
 use Rattle.lgc_formula_trip.proofs.FormulaTexts.{MayStand, FormulaWritten, formula_written}
-use Rattle.lgc_query_trip.specs.WritableQueries.{IsWritableQuery}
+use Rattle.lgc_queries.specs.WritableQueries.{IsWritableQuery}
 use Rattle.lgc_query_trip.proofs.Signs.{cut_entail, cut_mixed, cut_equation, cut_quasi, cut_equals, cut_spaced_comma, cut_spaced_colon, is_entail, is_mixed, is_equation, is_quasi, is_equals, is_colon}
 use Rattle.lgc_query_trip.proofs.ValueTexts.{set_written}
 use Rattle.lgc_query_trip.proofs.Rows.{IsNext, row_written, turnstile_written, premises_written}

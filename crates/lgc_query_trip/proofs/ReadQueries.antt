@@ -25,10 +25,10 @@ use Rattle.lgc_queries.specs.Goals.{has_too_many_goals}
 use Rattle.lgc_queries.specs.QueryGrammar.{no_formulas, no_equations, Premises, EquationPhrase, CommaEquation, EquationList, EquationPremises, EntailQuery, MixedQuery, EquationQuery, QuasiQuery, OneQuery, file_setting, QueryEnd, NextQuery}
 use Rattle.lgc_queries.specs.QueryFile.{IsFileOf}
 use Rattle.lgc_queries.proofs.QueriesKept.{queries_kept}
-use Rattle.lgc_formula_trip.specs.Writable.{has_readable_names}
+use Rattle.lgc_formulas.specs.Writable.{has_readable_names}
 use Rattle.lgc_formula_trip.proofs.WordTokens.{IsFormedIn, tokens_formed, named_formed, each_front, each_behind}
 use Rattle.lgc_formula_trip.proofs.ReadFormulas.{LetsReadable, formula_readable}
-use Rattle.lgc_query_trip.specs.WritableQueries.{IsWritableQuery, AreWritable}
+use Rattle.lgc_queries.specs.WritableQueries.{IsWritableQuery, AreWritable}
 
 -- a phrase with a tree was not barred
 unbarred : {T A : Type 0} (bad : Bool) (first : T → Bool) (n : ℕ) (L : Grammar T A) (a : A) (ts : List T) → Barred bad first n L (Ok a) ts → L (Ok a) ts

@@ -9,13 +9,12 @@ use Rattle.lgc_syntax.specs.Sizes.{nodes, depth, has_quantifier}
 use Rattle.lgc_syntax.proofs.SizeLaws.{nodes-Op, depth-Op, at-le-greatest}
 use Rattle.lgc_meaning.specs.declared.query.Query.{Query}
 use Rattle.lgc_meaning.specs.Queries.{formulas_of, IsPropositional}
-use Rattle.lgc_numbering.specs.Subformulas.{IsSubformula, itself, of_argument, of_body}
-use Rattle.lgc_numbering.proofs.GrowthLaws.{quantified}
-use Rattle.lgc_numbering.proofs.FitLaws.{propositional_subformula, fits_subformula}
+use Rattle.lgc_syntax.specs.Subformulas.{IsSubformula, itself, of_argument, of_body}
+use Rattle.lgc_syntax.proofs.SubformulaLaws.{quantified, propositional_subformula, fits_subformula}
 use Rattle.lgc_formulas.specs.Setting.{Setting, numbered}
-use Rattle.lgc_formula_trip.specs.Writable.{has_readable_names, IsWritable}
+use Rattle.lgc_formulas.specs.Writable.{has_readable_names, IsWritable}
 use Rattle.lgc_formula_trip.proofs.WritableLaws.{names-Op}
-use Rattle.lgc_query_trip.specs.WritableQueries.{IsWritableQuery}
+use Rattle.lgc_queries.specs.WritableQueries.{IsWritableQuery}
 
 module _ (logic : Logic) (limited : Bool) (many : ℕ) where
   argument_writable : (op : ℕ) (args : List Formula) (a : Formula) → Contains args a → has_quantifier (Op op args) ≡ false → IsWritable logic limited many (Op op args) → IsWritable logic limited many a

@@ -24,7 +24,7 @@ use Rattle.lgc_formula_trip.proofs.Cuts.{sign, Anything, EndsWord}
 use Rattle.lgc_formula_trip.proofs.Written.{Written, written_then, written_behind, written_nothing, written_ended, written_grown, written_weaker, written_text}
 use Rattle.lgc_formula_trip.proofs.Tokens.{NamedAs, named_are}
 use Rattle.lgc_formula_trip.proofs.WholeTexts.{whole_text}
-use Rattle.lgc_query_trip.specs.WritableQueries.{IsWritableQuery}
+use Rattle.lgc_queries.specs.WritableQueries.{IsWritableQuery}
 use Rattle.lgc_query_trip.specs.QueryReadBack.{IsReadAsQuery, IsReadAsFile, file_text}
 use Rattle.lgc_query_trip.proofs.Signs.{cut_ending_dot, is_dot}
 use Rattle.lgc_query_trip.proofs.QueryTexts.{one_query_written}

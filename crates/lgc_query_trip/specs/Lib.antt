@@ -1,2 +1,1 @@
-pub mod WritableQueries
 pub mod QueryReadBack

@@ -3,7 +3,7 @@ ghost use Rattle.std.specs.Prelude.{◌≡◌, IfOk};
 ghost use Rattle.lgc_formulas.specs.declared.formula.TheConstants.{MOST_NODES};
 ghost use Rattle.lgc_formulas.specs.FormulaTexts.{text_setting};
 ghost use Rattle.lgc_queries.specs.QueryText.{query_text};
-ghost use Rattle.lgc_query_trip.specs.WritableQueries.{IsWritableQuery};
+ghost use Rattle.lgc_queries.specs.WritableQueries.{IsWritableQuery};
 ghost use Rattle.lgc_query_trip.specs.QueryReadBack.{IsReadAsQuery, IsReadAsFile};
 
 use lgc_meaning::Query;

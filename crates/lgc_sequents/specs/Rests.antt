@@ -11,7 +11,7 @@ cited_by Pending = []
 cited_by (ByRule rule principal premises) = map (λ cited. cited.line) premises
 cited_by (Resolve f left right) = left ∷ right ∷ []
 
--- a line rests on itself, and on each line that an earlier line cited by it rests on
+-- A line rests on itself. Where it cites a line before it, it also rests on whatever that one rests on.
 pub data RestsOn (lines : List PlainLine) : ℕ → ℕ → Type 0 where
   on_itself : (position : ℕ) → RestsOn lines position position
   on_cited : (position earlier other : ℕ) (line : PlainLine) → at_position lines position ≡ Some line → Contains (cited_by line.reason) earlier → earlier < position → RestsOn lines earlier other → RestsOn lines position other

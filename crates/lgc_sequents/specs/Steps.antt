@@ -99,8 +99,8 @@ pub record IsPremise (head : Head) (principal : Formula) (conclusion : List Sign
   pub eigenvariables : AreEigenvariables conclusion (take (eigenvariable_count head sets) premise.terms)
   pub allowed : are_allowed conclusion (auxiliary_formulas head sets principal premise.terms) premise.sequent ≡ true
 
--- A step by a rule. The principal formula is a compound of the rule's operator or quantifier, its sign in the conclusion has the rule's
--- sign, and there is a premise for each clause.
+-- A step by a rule. The rule's operator or quantifier is the outermost one of the principal formula, whose sign in the conclusion has all
+-- values of the rule's sign. There is a premise for each clause.
 pub record IsRuleStep (rule : PlainRule) (principal : Formula) (conclusion : List SignedFormula) (premises : List Premise) : Type 0 where
   pub compound : is_compound_of rule.head principal ≡ true
   pub signed : list_all (has (sign_in conclusion principal)) rule.sign ≡ true

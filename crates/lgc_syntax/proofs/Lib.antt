@@ -9,3 +9,5 @@ pub mod FitsLaws
 pub mod SubstitutionLaws
 pub mod ValueLaws
 pub mod StructureLaws
+pub mod SubformulaLaws
+pub mod IndexLaws

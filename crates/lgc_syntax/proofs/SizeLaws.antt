@@ -4,7 +4,7 @@ use Rattle.std.specs.List.{sum_by, list_any}
 use Rattle.std.proofs.lemmas.List.Sums.{sum-map, sum_by_more, sum_by_more_le}
 use Rattle.lgc_syntax.specs.declared.formula.Term.{Term, Bound, Free, Apply}
 use Rattle.lgc_syntax.specs.declared.formula.Formula.{Formula, Atom, Op, Quant}
-use Rattle.lgc_syntax.specs.Sizes.{greatest, term_nodes, term_nodes_layer, nodes, nodes_layer, term_depth, term_depth_layer, depth, depth_layer, has_quantifier, has_quantifier_layer}
+use Rattle.lgc_syntax.specs.Sizes.{greatest, term_nodes, term_nodes_layer, nodes, nodes_layer, term_depth, term_depth_layer, depth, depth_layer, has_quantifier, has_quantifier_layer, operators, operators_layer}
 use Rattle.lgc_syntax.proofs.Folds.{fold-Bound, fold-Free, fold-Apply, fold-Atom, fold-Op, fold-Quant}
 use Rattle.lgc_syntax.proofs.Induction.{term_induction, formula_induction}
 use Rattle.lgc_syntax.proofs.Lists.{list_any-map}
@@ -105,3 +105,9 @@ unfolding has_quantifier
 has_quantifier-Quant q body = fold-Quant Bool has_quantifier_layer q body
 
 pub ruleset quantifier_rules = (has_quantifier-Atom, has_quantifier-Op, has_quantifier-Quant)
+
+-- ---- operators
+
+pub operators-Op : (o : ℕ) (args : List Formula) → operators (Op o args) ≡ 1 + sum_by operators args
+unfolding operators
+operators-Op o args = fold-Op ℕ operators_layer o args ∙ ap (λ n. 1 + n) (sum-map operators args)

@@ -1,6 +1,7 @@
 pub mod Equality
 pub mod Sizes
 pub mod Fits
+pub mod Subformulas
 pub mod Variables
 pub mod Substitution
 pub mod Depths

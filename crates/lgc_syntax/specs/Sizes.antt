@@ -1,4 +1,4 @@
--- How many nodes a term or a formula has, how deep it is, and whether it has a quantifier.
+-- How many nodes a term or a formula has, how deep it is, whether it has a quantifier, and how many operators.
 --
 -- Each formula and each term inside is one node. The depth is the greatest number of nodes on a way down.
 use Rattle.std.specs.Prelude.{ℕ, ◌+◌, max, Bool, true, false, List, [], ◌∷◌, map}
@@ -60,3 +60,14 @@ has_quantifier_layer (formula.Quant q body) = true
 
 unfoldable pub has_quantifier : Formula → Bool
 has_quantifier = fold-Formula Bool has_quantifier_layer
+
+-- ---- operators
+
+-- how many operators occur in a formula, each as often as it stands there
+abbrev pub operators_layer : Formula-F ℕ → ℕ
+operators_layer (formula.Atom p args) = 0
+operators_layer (formula.Op o args) = 1 + sum args
+operators_layer (formula.Quant q body) = body
+
+unfoldable pub operators : Formula → ℕ
+operators = fold-Formula ℕ operators_layer

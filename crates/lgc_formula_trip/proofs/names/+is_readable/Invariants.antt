@@ -1,7 +1,7 @@
 -- The formulas that are left decide.
 use Rattle.std.proofs.Common.{◌≡◌, false, drop}
 use Rattle.std.specs.List.{list_all}
-use Rattle.lgc_formula_trip.specs.Writable.{has_readable_names}
+use Rattle.lgc_formulas.specs.Writable.{has_readable_names}
 use Rattle.lgc_formula_trip.proofs.names.+is_readable.Given as goal
 
 abbrev pub invariant-have_readable_names-loop-formula : goal.invariant-have_readable_names-loop-formula

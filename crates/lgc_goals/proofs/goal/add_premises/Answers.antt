@@ -6,7 +6,7 @@ use Rattle.lgc_values.specs.Logic.{arguments_at}
 use Rattle.lgc_sequents.specs.Sequents.{added}
 use Rattle.lgc_meaning.specs.declared.query.Pair.{Pair}
 use Rattle.lgc_goals.specs.Goals.{complement, with_signed, premise_items}
-use Rattle.lgc_goals.proofs.Tuples.{length-arguments_at}
+use Rattle.lgc_syntax.proofs.IndexLaws.{length-arguments_at}
 use Rattle.lgc_goals.proofs.goal.add_premises.Goals as goal
 
 one_more : (n : ℕ) (premises : List Pair) (tuple : List ℕ) (i : ℕ) (pair : Pair) → i < length premises → i < length tuple → pair ≡ get_or premises i pair

@@ -1,8 +1,9 @@
 -- The walk appends subformulas alone.
 use Rattle.std.proofs.Common.{rules}
 use Rattle.lgc_syntax.specs.declared.formula.Formula.{the_lemmas}
-use Rattle.lgc_numbering.specs.Subformulas.{IsSubformula}
-use Rattle.lgc_numbering.proofs.GrowthLaws.{arguments_propositional, quantified, grown_by_itself, grown_by_arguments, grown_by_compound, grown_by_item, numbers_item}
+use Rattle.lgc_syntax.specs.Subformulas.{IsSubformula}
+use Rattle.lgc_syntax.proofs.SubformulaLaws.{arguments_propositional, quantified}
+use Rattle.lgc_numbering.proofs.GrowthLaws.{grown_by_itself, grown_by_arguments, grown_by_compound, grown_by_item, numbers_item}
 use Rattle.lgc_numbering.proofs.number.+number_in.Goals as goal
 
 pub number_in-numbers_in-requires : goal.number_in-numbers_in-requires

@@ -2,7 +2,8 @@
 use Rattle.std.proofs.Common.{take}
 use Rattle.std.specs.List.{Any}
 use Rattle.lgc_numbering.specs.Store.{AreNumbersOf}
-use Rattle.lgc_numbering.specs.Subformulas.{IsSubformula, IsGrownBy}
+use Rattle.lgc_syntax.specs.Subformulas.{IsSubformula}
+use Rattle.lgc_numbering.specs.Growth.{IsGrownBy}
 use Rattle.lgc_numbering.proofs.number.+number_in.Given as goal
 
 abbrev pub invariant-numbers_in-loop-f : goal.invariant-numbers_in-loop-f

@@ -3,7 +3,8 @@ use Rattle.std.proofs.Common.{◌≡◌, List, get_or, refl, sym, subst}
 use Rattle.std.specs.List.{Any}
 use Rattle.lgc_sequents.specs.Signed.{SignedFormula}
 use Rattle.lgc_sequents.specs.Sequents.{IsSequent}
-use Rattle.lgc_numbering.specs.Subformulas.{IsSubformula, IsGrownBy}
+use Rattle.lgc_syntax.specs.Subformulas.{IsSubformula}
+use Rattle.lgc_numbering.specs.Growth.{IsGrownBy}
 use Rattle.lgc_packed.proofs.PackLaws.{pack_more, packed_all, grown_by_item}
 use Rattle.lgc_packed.proofs.packing.pack.Goals as goal
 

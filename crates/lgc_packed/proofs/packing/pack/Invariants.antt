@@ -2,7 +2,8 @@
 use Rattle.std.proofs.Common.{take}
 use Rattle.std.specs.List.{Any}
 use Rattle.lgc_numbering.specs.Numbering.{IsNumbering}
-use Rattle.lgc_numbering.specs.Subformulas.{IsSubformula, IsGrownBy}
+use Rattle.lgc_syntax.specs.Subformulas.{IsSubformula}
+use Rattle.lgc_numbering.specs.Growth.{IsGrownBy}
 use Rattle.lgc_packed.specs.Packing.{IsPackOf}
 use Rattle.lgc_packed.proofs.packing.pack.Given as goal
 

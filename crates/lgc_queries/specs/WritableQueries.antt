@@ -6,7 +6,7 @@ use Rattle.lgc_meaning.specs.Queries.{formulas_of}
 use Rattle.lgc_formulas.specs.declared.formula.TheConstants.{MOST_NODES}
 use Rattle.lgc_formulas.specs.Setting.{Setting, numbered}
 use Rattle.lgc_formulas.specs.FormulaTexts.{text_setting}
-use Rattle.lgc_formula_trip.specs.Writable.{has_readable_names}
+use Rattle.lgc_formulas.specs.Writable.{has_readable_names}
 use Rattle.lgc_queries.specs.Limits.{IsQueryFor}
 
 -- A query that can be read against a setting where `many` nodes are left: it keeps the limits of queries that are read, and the names in
