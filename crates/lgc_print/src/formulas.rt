@@ -45,9 +45,10 @@ fn put_quantifier_name<const N: usize>(
     }
 }
 
+/// Puts the text of a term that stands below some number of quantifiers. Where memory runs out, `into` may have a part of it.
 #[cycle(put_term)]
 #[tactic(auto, using(crate::proofs::FormulaTextLaws::text_rules))]
-fn put_term(alloc: Global, t: &Term, around: u32, into: &mut Vec<u8>) -> Result<(), AllocError>
+pub fn put_term(alloc: Global, t: &Term, around: u32, into: &mut Vec<u8>) -> Result<(), AllocError>
     ensures { OnOk result (into.new.items ≡ into.old.items ++ term_text t.now around) }
 {
     match t {
@@ -114,9 +115,10 @@ fn arguments(around: u32, op: u16, args: &List<Formula>) -> &[Formula]
     args.items()
 }
 
+/// Puts the text of a formula that stands below some number of quantifiers. Where memory runs out, `into` may have a part of it.
 #[cycle(put_formula)]
 #[tactic(auto, using(crate::proofs::FormulaTextLaws::text_rules, lgc_syntax::proofs::SizeLaws::depth_rules))]
-fn put_formula<const N: usize>(
+pub fn put_formula<const N: usize>(
     alloc: Global,
     m: &Matrix<N>,
     f: &Formula,

@@ -19,7 +19,7 @@ use crate::{Claim, Evidence, Report};
 use itoa::Buffer;
 use lgc_clauses::Numbered;
 use lgc_meaning::Query;
-use lgc_print::{put_set, put_value, write_formula, write_rule, write_term};
+use lgc_print::{put_formula, put_set, put_term, put_value, write_rule};
 use lgc_queries::write_query;
 use lgc_sequents::{Cited, Line, Reason, Signed};
 use lgc_syntax::{Formula, Term};
@@ -43,7 +43,7 @@ fn put_item<const N: usize>(
     requires { depth item.now.formula < 2 ^ 32 }
     ensures { OnOk result (into.new.items ≡ into.old.items ++ item_text m.now item.now) }
 {
-    write_formula(alloc, m, &item.formula, into)?;
+    put_formula(alloc, m, &item.formula, 0, into)?;
     into.push(b'^')?;
     put_set(m.names(), item.sign, into)
 }
@@ -75,7 +75,7 @@ fn put_each_term(alloc: Global, terms: &[Term], into: &mut Vec<u8>) -> Result<()
     let mut separator: &[u8] = b"";
     for t in terms {
         into.extend_from_slice(separator)?;
-        write_term(alloc, t, into)?;
+        put_term(alloc, t, 0, into)?;
         separator = b",";
     }
     Ok(())
@@ -151,12 +151,12 @@ fn put_reason<const N: usize>(
             into.extend_from_slice(b"rule ")?;
             put_position(u64::from(*rule), into)?;
             into.extend_from_slice(b" on ")?;
-            write_formula(alloc, m, principal, into)?;
+            put_formula(alloc, m, principal, 0, into)?;
             put_premises(alloc, premises.items(), into)
         }
         Reason::Resolve { on, left, right } => {
             into.extend_from_slice(b"resolve on ")?;
-            write_formula(alloc, m, on, into)?;
+            put_formula(alloc, m, on, 0, into)?;
             into.extend_from_slice(b" from ")?;
             put_position(*left, into)?;
             into.extend_from_slice(b", ")?;
@@ -227,7 +227,7 @@ fn put_entry<const N: usize>(
     ensures { OnOk result (into.new.items ≡ into.old.items ++ entry_text m.now (atom.now, value)) }
 {
     let names = m.names();
-    write_formula(alloc, m, atom, into)?;
+    put_formula(alloc, m, atom, 0, into)?;
     into.extend_from_slice(b": ")?;
     put_value(names[value as usize].bytes(), into)
 }
