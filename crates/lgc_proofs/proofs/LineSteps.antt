@@ -1,10 +1,12 @@
 -- A step of lemmas is a step of lines: the lines of lemmas, with the formulas that their numbers stand for, are steps of a derivation.
 use Rattle.std.proofs.Common.{◌≡◌, ℕ, zero, suc, ◌<◌, ◌≤◌, ◌-◌, Bool, true, false, cond, ◌==◌, ◌||◌, ◌&&◌, not, ◌++◌, List, [], ◌∷◌, length, map, slice_get, Some, refl, sym, ◌∙◌, ap, subst, arith, ⊎_elim, append_assoc}
-use Rattle.std.specs.Prelude.{All}
+use Rattle.std.specs.Prelude.{All, IsPermutation}
 use Rattle.std.specs.List.{AllZip, list_all, zip}
 use Rattle.std.proofs.lemmas.Bool.{and_parts, and_from, or_cases, or_left, or_right, eqb-true, eq-eqb, true≢false}
 use Rattle.std.proofs.lemmas.List.{append-nil}
 use Rattle.std.proofs.lemmas.List.Elements.{All-cons, All-head, All-tail, All-nil, All-push, All-weaker}
+use Rattle.std.proofs.lemmas.List.Sorted.{All-permutation, IsPermutation-sym}
+use Rattle.std.proofs.lemmas.List.Sums.{AllPass-from_list_all, list_all-from_AllPass}
 use Rattle.std.proofs.lemmas.Option.{slice_get_within}
 use Rattle.lgc_values.specs.Values.{has, values_where}
 use Rattle.lgc_values.specs.Logic.{Logic}
@@ -17,8 +19,6 @@ use Rattle.lgc_sequents.specs.Lines.{PlainLine, at_position, IsPosition, sequent
 use Rattle.lgc_sequents.specs.Steps.{with_signs, carries, are_allowed, IsRuleStep, without_terms, premise_at, IsReasonFor}
 use Rattle.lgc_sequents.specs.Steps.{IsStep as IsLineStep}
 use Rattle.lgc_sequents.specs.declared.line.Cited.{Cited}
-use Rattle.lgc_sequents.specs.declared.line.Reason.{Reason as LineReason}
-use Rattle.lgc_sequents.specs.declared.line.Reason.TheVariants as line
 use Rattle.lgc_sequents.proofs.Laws.{list_all-has}
 use Rattle.lgc_sequents.proofs.StepLaws.{operator_step, operator_step_grown}
 use Rattle.lgc_numbering.specs.declared.node.Node.{Node}
@@ -38,27 +38,7 @@ use Rattle.lgc_lemmas.specs.Plain.{PlainLemma}
 use Rattle.lgc_lemmas.specs.Steps.{marks_other, ArePremises, IsReason, IsStep, AreSteps}
 use Rattle.lgc_lemmas.specs.Nodes.{HasNumbersBelow}
 use Rattle.lgc_lemmas.proofs.Truth.{all_at}
-
--- ---- lines of lemmas
-
--- the line of a cited lemma, without terms, where lemmas have their lines at these positions
-abbrev pub cited_line : (ℕ → ℕ) → ℕ → Cited
-cited_line position place = record { line = position place; terms = [] }
-
--- the reason of a lemma, of the formulas with its numbers and of lines
-abbrev pub line_reason : List Formula → (ℕ → ℕ) → Reason → LineReason
-line_reason formulas position lemma.Axiom = line.Axiom
-line_reason formulas position (lemma.ByRule number principal cited) = line.ByRule number (formula_at formulas principal) (map (cited_line position) cited)
-
--- the places of the lemmas that a reason cites
-abbrev pub places_cited_by : Reason → List ℕ
-places_cited_by lemma.Axiom = []
-places_cited_by (lemma.ByRule number principal cited) = cited
-
--- the lemma at a place has its line at a position
-pub record HasLine (formulas : List Formula) (lemmas : List PlainLemma) (lines : List PlainLine) (place position : ℕ) : Type 0 where
-  pub earlier : IsPosition lines position
-  pub is : (lemma : PlainLemma) → slice_get lemmas place ≡ Some lemma → sequent_at lines position ≡ unpacked formulas lemma.sequent
+use Rattle.lgc_proofs.specs.Writing.{places_cited_by, cited_line, line_reason, HasLine}
 
 -- ---- signs by numbers
 module _ (formulas : List Formula) (numbering : IsNumbering formulas) (k v : ℕ) (within : k < length formulas) where
@@ -126,14 +106,9 @@ axiom_grown n (x ∷ xs) others some included full =
         let parts = and_parts (has x.sign v) (list_all (has x.sign) values) all in
         and_from (has (sign_in others x.formula) v) (list_all (has (sign_in others x.formula)) values) (list_all-has (has (sign_in others x.formula)) x.sign v within parts.0) (all_within values parts.1 within)
 
--- ---- what lemmas are
--- the lemmas of steps are packed sequents of numbered formulas
-pub all_formed : (logic : Logic) (nodes : List Node) (rules : List OperatorRule) (before lemmas : List PlainLemma) → All (λ l. IsPacked logic.size l.sequent × HasNumbersBelow (length nodes) l.sequent) before → AreSteps logic nodes rules before lemmas
-    → All (λ l. IsPacked logic.size l.sequent × HasNumbersBelow (length nodes) l.sequent) (before ++ lemmas)
-all_formed logic nodes rules before [] all steps = subst (All (λ (l : PlainLemma). IsPacked logic.size l.sequent × HasNumbersBelow (length nodes) l.sequent)) (sym (append-nil before)) all
-all_formed logic nodes rules before (first ∷ lemmas) all steps =
-    subst (All (λ (l : PlainLemma). IsPacked logic.size l.sequent × HasNumbersBelow (length nodes) l.sequent)) (append_assoc before (first ∷ []) lemmas)
-    (all_formed logic nodes rules (before ++ first ∷ []) lemmas (All-push (λ (l : PlainLemma). IsPacked logic.size l.sequent × HasNumbersBelow (length nodes) l.sequent) before first all (steps.0.packed, steps.0.numbers)) steps.1)
+-- ---- items in some order
+list_all-permutation : {X : Type 0} (test : X → Bool) (xs ys : List X) → IsPermutation xs ys → list_all test xs ≡ true → list_all test ys ≡ true
+list_all-permutation test xs ys same all = list_all-from_AllPass test ys (All-permutation (λ x. test x ≡ true) xs ys same (AllPass-from_list_all test xs all))
 
 -- ---- rules by their numbers
 slice_get-map : {X Y : Type 0} (f : X → Y) (xs : List X) (i : ℕ) (x : X) → slice_get xs i ≡ Some x → slice_get (map f xs) i ≡ Some (f x)
@@ -176,7 +151,8 @@ module _ (n : ℕ) (formulas : List Formula) (numbering : IsNumbering formulas) 
   premises_allowed (sets ∷ clauses) (place ∷ cited) premises each =
       let here = premises.0 in
       let formed = all_at (λ (l : PlainLemma). IsPacked n l.sequent × AreKnown formulas l.sequent) lemmas place here.lemma all here.is in (
-        subst (λ (s : List SignedFormula). are_allowed (unpacked formulas sequent) (with_signs sets (map (formula_at formulas) arguments)) s ≡ true) (sym ((All-head (λ p. HasLine formulas lemmas lines p (position p)) place cited each).is here.lemma here.is))
+        list_all-permutation (λ item. list_all (λ v. has (sign_in (unpacked formulas sequent) item.formula) v || carries (with_signs sets (map (formula_at formulas) arguments)) item.formula v) item.sign)
+            (unpacked formulas here.lemma.sequent) (sequent_at lines (position place)) (IsPermutation-sym (sequent_at lines (position place)) (unpacked formulas here.lemma.sequent) ((All-head (λ p. HasLine formulas lemmas lines p (position p)) place cited each).same here.lemma here.is))
             (pairs_allowed sets here.lemma.sequent formed.0.signs formed.1 here.within),
         premises_allowed clauses cited premises.1 (All-tail (λ p. HasLine formulas lemmas lines p (position p)) place cited each),
       )
@@ -188,7 +164,7 @@ same_premises lines position (place ∷ cited) = ap (λ premises. premise_at lin
 earlier_lines : (formulas : List Formula) (lemmas : List PlainLemma) (lines : List PlainLine) (position : ℕ → ℕ) (cited : List ℕ) → All (λ place. HasLine formulas lemmas lines place (position place)) cited → All (λ (c : Cited). IsPosition lines c.line) (map (cited_line position) cited)
 earlier_lines formulas lemmas lines position [] each = All-nil (λ (c : Cited). IsPosition lines c.line)
 earlier_lines formulas lemmas lines position (place ∷ cited) each =
-    All-cons (λ (c : Cited). IsPosition lines c.line) (cited_line position place) (map (cited_line position) cited) (All-head (λ p. HasLine formulas lemmas lines p (position p)) place cited each).earlier
+    All-cons (λ (c : Cited). IsPosition lines c.line) (cited_line position place) (map (cited_line position) cited) (All-head (λ p. HasLine formulas lemmas lines p (position p)) place cited each).stands
     (earlier_lines formulas lemmas lines position cited (All-tail (λ p. HasLine formulas lemmas lines p (position p)) place cited each))
 
 -- ---- steps
@@ -243,10 +219,3 @@ module _ (logic : Logic) (formulas : List Formula) (nodes : List Node) (are : Ar
   pub line_step : (l : PlainLemma) → IsStep logic nodes rules lemmas l → All (λ place. HasLine formulas lemmas lines place (position place)) (places_cited_by l.reason) → (number : ℕ) (conclusion : List SignedFormula) → is_included (unpacked formulas l.sequent) conclusion ≡ true
       → IsLineStep logic.size (map of_operator rules) lines (record { number = number; sequent = conclusion; reason = line_reason formulas position l.reason })
   line_step l step each number conclusion included = reason_step l.sequent step.packed step.numbers l.reason step.reason each conclusion included
-
-  -- the same of the lemma's own sequent
-  pub own_line_step : (l : PlainLemma) → IsStep logic nodes rules lemmas l → All (λ place. HasLine formulas lemmas lines place (position place)) (places_cited_by l.reason) → (number : ℕ)
-      → IsLineStep logic.size (map of_operator rules) lines (record { number = number; sequent = unpacked formulas l.sequent; reason = line_reason formulas position l.reason })
-  own_line_step l step each number =
-      let known : AreKnown formulas l.sequent = subst (λ count. All (λ (pair : ℕ × List ℕ). pair.0 < count) l.sequent) are.count step.numbers in
-      line_step l step each number (unpacked formulas l.sequent) (included-unpacked logic.size formulas numbering l.sequent l.sequent step.packed.signs known step.packed known (λ k w below m. m))

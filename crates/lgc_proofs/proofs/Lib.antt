@@ -1,0 +1,6 @@
+pub mod LineSteps
+pub mod Operators
+pub mod Appending
+pub mod Marking
+pub mod KeyLaws
+pub mod StoreLaws
