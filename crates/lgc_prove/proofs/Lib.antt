@@ -1,0 +1,11 @@
+pub mod OneByOne
+pub mod GoalFormulas
+pub mod AtomLaws
+pub mod LineLaws
+pub mod EvidenceLaws
+pub mod ClaimLaws
+pub mod ReportLaws
+pub mod Parts
+pub mod WritableLaws
+pub mod UseLaws
+pub mod ByUseLaws

@@ -1,0 +1,5 @@
+pub mod Answers
+pub mod ByUse
+pub mod AnswerText
+pub mod Work
+pub mod Uses
