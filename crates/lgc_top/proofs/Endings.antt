@@ -9,14 +9,19 @@ use Rattle.lgc_syntax.specs.declared.fault.InputFault.{InputFault}
 use Rattle.lgc_syntax.specs.declared.fault.InputFault.TheVariants as input
 use Rattle.lgc_syntax.specs.declared.fault.TheConstants as syntax
 use Rattle.lgc_top.specs.declared.status.Status.{Status}
-use Rattle.lgc_top.specs.declared.status.Status.TheVariants.{Done, Rejected}
+use Rattle.lgc_top.specs.declared.status.Status.TheVariants.{Done, Refuted, Rejected}
 use Rattle.lgc_rules.specs.declared.file.TheConstants as rules
+use Rattle.lgc_queries.specs.declared.TheConstants as queries
+use Rattle.lgc_meaning.specs.declared.query.Query.{Query}
+use Rattle.lgc_top.specs.declared.command.Work.{Work}
+use Rattle.lgc_top.specs.declared.command.Work.TheVariants as work
 use Rattle.lgc_top.specs.Verify.{RulesGiven, IsVerdictText}
-use Rattle.lgc_top.specs.Steps.{verdict_status}
+use Rattle.lgc_top.specs.Prove.{QueriesGiven, IsReportOn}
+use Rattle.lgc_top.specs.Steps.{on_both, limit_of, verdict_status, answer_status}
 use Rattle.lgc_spec.specs.declared.spec.Spec.{Spec}
 use Rattle.lgc_spec.specs.Logics.{logic_of}
-use Rattle.lgc_top.specs.Commands.{Calculus, Verify, command_of}
-use Rattle.lgc_top.specs.Run.{Run, HasInput, CommandAnswers, Ends, WordsAnswer, PrintsCalculus, PrintsVerdicts}
+use Rattle.lgc_top.specs.Commands.{Calculus, Verify, Prove, spec_of, input_of, command_of}
+use Rattle.lgc_top.specs.Run.{Run, HasInput, HasInputFault, CommandAnswers, Ends, WordsAnswer, PrintsCalculus, PrintsVerdicts, PrintsReport}
 
 -- what the output gained
 module _ (run : Run) where
@@ -41,16 +46,56 @@ module _ (run : Run) where
         let (kept, (spec, bytes, asked, verdicts)) = subst (λ found. WordsAnswer found run.files run.files_after Rejected text) command answers in
         record { spec = spec; bytes = bytes; asked = asked; text = text; verdicts = verdicts; printed = takes }
 
+  pub prints_proved : (file queries : List ℕ) (ended : Status) → Ends run ended → command_of run.words ≡ Some (Prove file queries) → ended ≡ Done → PrintsReport run file queries true
+  prints_proved file queries ended ends command is = from (subst (Ends run) is ends) where
+    from : Ends run Done → PrintsReport run file queries true
+    from (text, answers, (takes, same)) =
+        let (kept, (spec, bytes, asked, report)) = subst (λ found. WordsAnswer found run.files run.files_after Done text) command answers in
+        record { spec = spec; bytes = bytes; asked = asked; text = text; report = report; printed = takes }
+
+  pub prints_refuted : (file queries : List ℕ) (ended : Status) → Ends run ended → command_of run.words ≡ Some (Prove file queries) → ended ≡ Refuted → PrintsReport run file queries false
+  prints_refuted file queries ended ends command is = from (subst (Ends run) is ends) where
+    from : Ends run Refuted → PrintsReport run file queries false
+    from (text, answers, (takes, same)) =
+        let (kept, (spec, bytes, asked, report)) = subst (λ found. WordsAnswer found run.files run.files_after Refuted text) command answers in
+        record { spec = spec; bytes = bytes; asked = asked; text = text; report = report; printed = takes }
+
 abbrev told_fault : (n number offset : ℕ) → Result (List (Rule n)) InputFault
 told_fault n number offset = Err (input.Fault number offset)
 
--- a rule file that is too long has this fault
-pub long_rules : (logic : Logic) (bytes : List ℕ) → rules.LONGEST_FILE < length bytes → RulesGiven logic bytes (told_fault logic.size syntax.FILE_TOO_LONG rules.LONGEST_FILE)
+abbrev queries_fault : (number offset : ℕ) → Result (List Query) InputFault
+queries_fault number offset = Err (input.Fault number offset)
+
+long_rules : (logic : Logic) (bytes : List ℕ) → rules.LONGEST_FILE < length bytes → RulesGiven logic bytes (told_fault logic.size syntax.FILE_TOO_LONG rules.LONGEST_FILE)
 long_rules logic bytes long =
     let is : nat_lt rules.LONGEST_FILE (length bytes) ≡ true = grind (arith, nat_tests) in
     rw is refl
+
+long_queries : (logic : Logic) (bytes : List ℕ) → queries.LONGEST_FILE < length bytes → QueriesGiven logic bytes (queries_fault syntax.FILE_TOO_LONG queries.LONGEST_FILE)
+long_queries logic bytes long =
+    let is : nat_lt queries.LONGEST_FILE (length bytes) ≡ true = grind (arith, nat_tests) in
+    rw is refl
+
+-- a second file that is too long has this fault
+pub long_input : (work : Work) (file name : List ℕ) (logic : Logic) (bytes : List ℕ) → limit_of work < length bytes → HasInputFault (on_both work file name) logic bytes syntax.FILE_TOO_LONG (limit_of work)
+long_input work.Verify file name logic bytes long = long_rules logic bytes long
+long_input work.Prove file name logic bytes long = long_queries logic bytes long
+
+-- the files of work on two files
+pub spec_of-on_both : (work : Work) (file name : List ℕ) → spec_of (on_both work file name) ≡ file
+spec_of-on_both work.Verify file name = refl
+spec_of-on_both work.Prove file name = refl
+
+pub input_of-on_both : (work : Work) (file name : List ℕ) → input_of (on_both work file name) ≡ Some name
+input_of-on_both work.Verify file name = refl
+input_of-on_both work.Prove file name = refl
 
 -- the lines on rules answer the words, under the status by whether all rules are right
 pub lines_answer : (file rules : List ℕ) (files files_after : FilesState) (spec : Spec) (bytes text : List ℕ) (right : Bool) (status : Status) → files_after ≡ files → status ≡ verdict_status right → HasInput (Verify file rules) files spec bytes → IsVerdictText (logic_of spec) right bytes text → CommandAnswers (Verify file rules) files files_after status text
 lines_answer file rules files files_after spec bytes text true status kept is asked verdicts = rw is (kept, (spec, bytes, asked, verdicts))
 lines_answer file rules files files_after spec bytes text false status kept is asked verdicts = rw is (kept, (spec, bytes, asked, verdicts))
+
+-- the text of a report answers the words, under the status by whether all queries are proved
+pub report_answers : (file queries : List ℕ) (files files_after : FilesState) (spec : Spec) (bytes text : List ℕ) (all_proved : Bool) (status : Status) → files_after ≡ files → status ≡ answer_status all_proved → HasInput (Prove file queries) files spec bytes → IsReportOn (logic_of spec) all_proved bytes text → CommandAnswers (Prove file queries) files files_after status text
+report_answers file queries files files_after spec bytes text true status kept is asked report = rw is (kept, (spec, bytes, asked, report))
+report_answers file queries files files_after spec bytes text false status kept is asked report = rw is (kept, (spec, bytes, asked, report))

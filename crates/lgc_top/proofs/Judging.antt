@@ -1,5 +1,5 @@
--- From the rules of a matrix to those of a logic.
-use Rattle.std.proofs.Common.{◌≡◌, ℕ, List, Bool, Result, Ok, Err, subst}
+-- From the rules and queries of a matrix to those of a logic.
+use Rattle.std.proofs.Common.{◌≡◌, ◌<◌, ◌^◌, ℕ, List, Bool, Result, Ok, Err, length, refl, subst}
 use Rattle.std.specs.Prelude.{◌↔◌, IsTrue, All, map}
 use Rattle.lgc_values.specs.Logic.{Logic}
 use Rattle.lgc_clauses.specs.declared.rule.Rule.{Rule}
@@ -9,7 +9,20 @@ use Rattle.lgc_syntax.specs.declared.fault.InputFault.TheVariants.{Fault, Memory
 use Rattle.lgc_inputs.specs.Told.{Holds}
 use Rattle.lgc_rules.specs.RuleFile.{FileGives}
 use Rattle.lgc_verify.specs.Verdicts.{IsRight, IsText}
+use Rattle.lgc_values.specs.Logic.{IsLogic}
+use Rattle.lgc_meaning.specs.declared.query.Query.{Query}
+use Rattle.lgc_queries.specs.QueryFile as queries
+use Rattle.lgc_queries.specs.Limits.{IsFileQuery}
+use Rattle.lgc_queries.proofs.QueryFiles.{file_of}
+use Rattle.lgc_query_trip.proofs.ReadQueries.{read_queries_writable}
+use Rattle.lgc_prove.specs.Answers.{IsAsked}
+use Rattle.lgc_prove.specs.AnswerText.{IsAnswerText}
+use Rattle.lgc_top.proofs.FewQueries.{few_queries}
+use Rattle.lgc_top.specs.Prove.{QueriesGiven, IsReportOn, ReportsOnBytes}
 use Rattle.lgc_top.specs.Verify.{RulesGiven, IsVerdictText, JudgesBytes}
+
+abbrev pub queries_failed : InputFault → Result (List Query) InputFault
+queries_failed fault = Err fault
 
 abbrev pub failed : (n : ℕ) → InputFault → Result (List (Rule n)) InputFault
 failed n fault = Err fault
@@ -33,3 +46,25 @@ module _ (n : ℕ) (m logic : Logic) (same : m ≡ logic) (size : m.size ≡ n) 
   pub refused : (fault : InputFault) → Holds (FileGives n m bytes) (failed n fault) → JudgesBytes logic bytes (Err fault)
   refused Memory given = tt
   refused (Fault number offset) given = faulty number offset given
+
+-- ---- queries
+
+module _ (m logic : Logic) (same : m ≡ logic) (bytes : List ℕ) where
+  pub reported : (all_proved : Bool) (text : List ℕ) (asked : List Query) → queries.FileGives m bytes (Ok asked) → IsAnswerText m asked all_proved text → IsReportOn logic all_proved bytes text
+  reported all_proved text asked given answers = subst (λ (l : Logic). IsReportOn l all_proved bytes text) same (record { queries = asked; given = given; answers = answers })
+
+  pub queries_refused : (fault : InputFault) → Holds (queries.FileGives m bytes) (queries_failed fault) → ReportsOnBytes logic bytes (Err fault)
+  queries_refused Memory given = tt
+  queries_refused (Fault number offset) given = subst (λ (l : Logic). QueriesGiven l bytes (Err (Fault number offset))) same given
+
+-- the queries of a file can be answered
+pub asked_of_file : (logic : Logic) (bytes : List ℕ) (asked : List Query) → IsLogic logic → queries.FileGives logic bytes (Ok asked) → All (IsFileQuery logic) asked → All (IsAsked logic) asked
+asked_of_file logic bytes asked is given fits = λ i d lt. record {
+  writable = read_queries_writable logic bytes asked is (file_of logic bytes asked given) i d lt;
+  propositional = (fits i d lt).query_for.propositional refl;
+  few = (fits i d lt).goals;
+}
+
+-- and there are few of them
+pub few_of_file : (logic : Logic) (bytes : List ℕ) (asked : List Query) → queries.FileGives logic bytes (Ok asked) → length asked < 2 ^ 32
+few_of_file logic bytes asked given = few_queries logic bytes asked (file_of logic bytes asked given)

@@ -2,3 +2,4 @@ pub mod Endings
 pub mod Meanings
 pub mod Stops
 pub mod Judging
+pub mod FewQueries

@@ -7,16 +7,20 @@ pub data Command : Type 0 where
   Calculus : List ℕ → Command
   -- tell for each rule of the second file whether it is right for the logic of the first
   Verify : List ℕ → List ℕ → Command
+  -- answer each query of the second file, for the logic of the first
+  Prove : List ℕ → List ℕ → Command
 
 -- the name of the file of the specification
 abbrev pub spec_of : Command → List ℕ
 spec_of (Calculus spec) = spec
 spec_of (Verify spec rules) = spec
+spec_of (Prove spec queries) = spec
 
 -- the name of the second file
 abbrev pub input_of : Command → Option (List ℕ)
 input_of (Calculus spec) = None
 input_of (Verify spec rules) = Some rules
+input_of (Prove spec queries) = Some queries
 
 -- nonempty, and not beginning with `-`
 abbrev pub is_file_name : List ℕ → Bool
@@ -27,9 +31,13 @@ is_file_name (b ∷ rest) = not (pointwise nat_eq (b ∷ []) (codes "-"))
 abbrev pub command_on : List ℕ → List ℕ → Option Command
 command_on word spec = if pointwise nat_eq word (codes "calculus") && is_file_name spec then Some (Calculus spec) else None
 
--- the command of a word and two files
+-- the command of a word and two names
+abbrev pub command_named : List ℕ → List ℕ → List ℕ → Option Command
+command_named word spec input = if pointwise nat_eq word (codes "verify") then Some (Verify spec input) else (if pointwise nat_eq word (codes "prove") then Some (Prove spec input) else None)
+
+-- the same where both are names of files
 abbrev pub command_on_both : List ℕ → List ℕ → List ℕ → Option Command
-command_on_both word spec input = if pointwise nat_eq word (codes "verify") && (is_file_name spec && is_file_name input) then Some (Verify spec input) else None
+command_on_both word spec input = if is_file_name spec && is_file_name input then command_named word spec input else None
 
 -- the command of a list of words, and None where they are no command
 abbrev pub command_of : List (List ℕ) → Option Command

@@ -10,11 +10,14 @@ use Rattle.lgc_spec.specs.declared.fault.SpecFault.{SpecFault}
 use Rattle.lgc_spec.specs.Logics.{logic_of}
 use Rattle.lgc_spec.specs.Specification.{BytesGive}
 use Rattle.lgc_syntax.specs.declared.fault.InputFault.{InputFault}
+use Rattle.lgc_meaning.specs.declared.query.Query.{Query}
 use Rattle.lgc_verify.specs.Verdicts.{IsRight}
+use Rattle.lgc_prove.specs.Answers.{IsSatisfiedEverywhere}
 use Rattle.lgc_top.specs.declared.status.Status.{Status}
-use Rattle.lgc_top.specs.declared.status.Status.TheVariants.{Done, BadSpec, BadInput, Rejected}
-use Rattle.lgc_top.specs.Commands.{Command, Calculus, Verify, spec_of, command_of}
+use Rattle.lgc_top.specs.declared.status.Status.TheVariants.{Done, Refuted, BadSpec, BadInput, Rejected}
+use Rattle.lgc_top.specs.Commands.{Command, Calculus, Verify, Prove, spec_of, command_of}
 use Rattle.lgc_top.specs.Verify.{RulesGiven}
+use Rattle.lgc_top.specs.Prove.{QueriesGiven}
 use Rattle.lgc_top.specs.Run.{Run}
 
 -- no count of faults rose
@@ -34,10 +37,18 @@ RulesMean logic (Ok rules) Done = All (IsRight logic) (map plain_rule rules)
 RulesMean logic (Ok rules) Rejected = All (IsRight logic) (map plain_rule rules) → ⊥
 RulesMean logic (Ok rules) status = ⊥
 
+-- What a query file means by what it gives: a fault BadInput, and queries Done or Refuted, by whether every valuation satisfies all of them.
+abbrev pub QueriesMean : Logic → Result (List Query) InputFault → Status → Type 0
+QueriesMean logic (Err fault) status = status ≡ BadInput
+QueriesMean logic (Ok queries) Done = All (IsSatisfiedEverywhere logic) queries
+QueriesMean logic (Ok queries) Refuted = All (IsSatisfiedEverywhere logic) queries → ⊥
+QueriesMean logic (Ok queries) status = ⊥
+
 -- What a logic means for a command, where `Has` says which bytes a file has.
 abbrev pub LogicMeans : (List ℕ → List ℕ → Type 0) → Command → Logic → Status → Type 0
 LogicMeans Has (Calculus file) logic status = status ≡ Done
 LogicMeans Has (Verify file rules) logic status = (bytes : List ℕ) × (told : Result (List (Rule logic.size)) InputFault) × Has rules bytes × RulesGiven logic bytes told × RulesMean logic told status
+LogicMeans Has (Prove file queries) logic status = (bytes : List ℕ) × (told : Result (List Query) InputFault) × Has queries bytes × QueriesGiven logic bytes told × QueriesMean logic told status
 
 -- What the bytes of a specification mean: a fault BadSpec, and else what its logic means.
 abbrev pub SpecMeans : (List ℕ → List ℕ → Type 0) → Command → Result Spec SpecFault → Status → Type 0

@@ -10,11 +10,12 @@ use Rattle.lgc_spec.specs.Logics.{logic_of}
 use Rattle.lgc_spec.specs.Specification.{BytesGive}
 use Rattle.lgc_syntax.specs.declared.fault.InputFault.TheVariants as input
 use Rattle.lgc_top.specs.declared.status.Status.{Status}
-use Rattle.lgc_top.specs.declared.status.Status.TheVariants.{Done, Usage, BadSpec, BadInput, Rejected, ReadFault, WriteFault, Memory}
+use Rattle.lgc_top.specs.declared.status.Status.TheVariants.{Done, Refuted, Usage, BadSpec, BadInput, Rejected, ReadFault, WriteFault, Memory}
 use Rattle.lgc_top.specs.FaultLine.{fault_line, input_line, read_line}
 use Rattle.lgc_top.specs.Calculus.{IsCalculusText}
 use Rattle.lgc_top.specs.Verify.{RulesGiven, IsVerdictText}
-use Rattle.lgc_top.specs.Commands.{Command, Calculus, Verify, spec_of, input_of, command_of}
+use Rattle.lgc_top.specs.Prove.{QueriesGiven, IsReportOn}
+use Rattle.lgc_top.specs.Commands.{Command, Calculus, Verify, Prove, spec_of, input_of, command_of}
 
 -- a run: its words, and its files and sinks before and after it
 pub record Run : Type 0 where
@@ -61,6 +62,7 @@ pub record IsFaultOf (bytes line : List ℕ) : Type 0 where
 abbrev pub HasInputFault : Command → Logic → List ℕ → ℕ → ℕ → Type 0
 HasInputFault (Calculus _) logic bytes number offset = ⊥
 HasInputFault (Verify _ _) logic bytes number offset = RulesGiven logic bytes (Err (input.Fault number offset))
+HasInputFault (Prove _ _) logic bytes number offset = QueriesGiven logic bytes (Err (input.Fault number offset))
 
 -- the same, and the line tells it
 pub record IsInputFaultOf (command : Command) (logic : Logic) (bytes line : List ℕ) : Type 0 where
@@ -76,6 +78,8 @@ abbrev pub Works : Command → FilesState → Status → List ℕ → Type 0
 Works (Calculus file) files Done text = (spec : Spec) × HasSpec (Calculus file) files spec × IsCalculusText (logic_of spec) text
 Works (Verify file rules) files Done text = (spec : Spec) × (bytes : List ℕ) × HasInput (Verify file rules) files spec bytes × IsVerdictText (logic_of spec) true bytes text
 Works (Verify file rules) files Rejected text = (spec : Spec) × (bytes : List ℕ) × HasInput (Verify file rules) files spec bytes × IsVerdictText (logic_of spec) false bytes text
+Works (Prove file queries) files Done text = (spec : Spec) × (bytes : List ℕ) × HasInput (Prove file queries) files spec bytes × IsReportOn (logic_of spec) true bytes text
+Works (Prove file queries) files Refuted text = (spec : Spec) × (bytes : List ℕ) × HasInput (Prove file queries) files spec bytes × IsReportOn (logic_of spec) false bytes text
 Works command files status text = ⊥
 
 -- each status that comes of what the files hold, with its cause, and with the bytes that are put under it
@@ -98,9 +102,10 @@ WordsAnswer (Some command) files files_after status bytes = CommandAnswers comma
 abbrev pub Answers : Run → Status → List ℕ → Type 0
 Answers run status bytes = WordsAnswer (command_of run.words) run.files run.files_after status bytes
 
--- one sink takes what is put, and the other stays as it was: `out` with the statuses Done and Rejected, and else `err`
+-- one sink takes what is put, and the other stays as it was: `out` with the statuses Done, Refuted and Rejected, and else `err`
 abbrev pub Puts : Run → Status → (SinkState → SinkState → Type 0) → Type 0
 Puts run Done Put = Put run.out run.out_after × (run.err_after ≡ run.err)
+Puts run Refuted Put = Put run.out run.out_after × (run.err_after ≡ run.err)
 Puts run Rejected Put = Put run.out run.out_after × (run.err_after ≡ run.err)
 Puts run status Put = Put run.err run.err_after × (run.out_after ≡ run.out)
 
@@ -127,11 +132,21 @@ pub record PrintsVerdicts (run : Run) (file rules : List ℕ) (right : Bool) : T
   pub verdicts : IsVerdictText (logic_of spec) right bytes text
   pub printed : Takes run.out run.out_after text
 
+-- the output gained a report that answers the queries in the second file, and `all_proved` tells whether all of them are proved
+pub record PrintsReport (run : Run) (file queries : List ℕ) (all_proved : Bool) : Type 0 where
+  pub spec : Spec
+  pub bytes : List ℕ
+  pub asked : HasInput (Prove file queries) run.files spec bytes
+  pub text : List ℕ
+  pub report : IsReportOn (logic_of spec) all_proved bytes text
+  pub printed : Takes run.out run.out_after text
+
 -- ---- numbers, and single puts
 
 -- the number that the process ends with
 abbrev pub number_of : Status → ℕ
 number_of Done = 0
+number_of Refuted = 1
 number_of Usage = 2
 number_of BadSpec = 3
 number_of BadInput = 4
@@ -143,6 +158,7 @@ number_of Memory = 8
 -- whether the bytes are put to `out`
 abbrev pub goes_out : Status → Bool
 goes_out Done = true
+goes_out Refuted = true
 goes_out Rejected = true
 goes_out status = false
 

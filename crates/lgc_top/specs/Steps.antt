@@ -2,9 +2,13 @@
 use Rattle.std.specs.Prelude.{◌≡◌, ℕ, Bool, if◌then◌else◌, List, Option, Result, MatchResult}
 use Rattle.lgc_io.specs.Files.{FilesState, FailsAt}
 use Rattle.lgc_top.specs.declared.command.Command.{Command}
-use Rattle.lgc_top.specs.declared.command.Command.TheVariants.{Calculus, Verify}
+use Rattle.lgc_top.specs.declared.command.Command.TheVariants.{Calculus, OnBoth}
+use Rattle.lgc_top.specs.declared.command.Work.{Work}
+use Rattle.lgc_top.specs.declared.command.Work.TheVariants.{Verify, Prove}
+use Rattle.lgc_rules.specs.declared.file.TheConstants as rules
+use Rattle.lgc_queries.specs.declared.TheConstants as queries
 use Rattle.lgc_top.specs.declared.status.Status.{Status}
-use Rattle.lgc_top.specs.declared.status.Status.TheVariants.{Done, Rejected, ReadFault}
+use Rattle.lgc_top.specs.declared.status.Status.TheVariants.{Done, Refuted, Rejected, ReadFault}
 use Rattle.lgc_top.specs.declared.answer.Answer.{Answer}
 use Rattle.lgc_top.specs.declared.answer.Stop.{Stop}
 use Rattle.lgc_top.specs.declared.answer.Stop.TheVariants.{Refused, Memory}
@@ -12,10 +16,20 @@ use Rattle.lgc_top.specs.FaultLine.{read_line}
 use Rattle.lgc_top.specs.Commands as words
 use Rattle.lgc_top.specs.Run.{WordsAnswer}
 
+-- the command for some work on two files
+abbrev pub on_both : Work → List ℕ → List ℕ → words.Command
+on_both Verify spec rules = words.Verify spec rules
+on_both Prove spec queries = words.Prove spec queries
+
+-- the greatest length of the second file
+abbrev pub limit_of : Work → ℕ
+limit_of Verify = rules.LONGEST_FILE
+limit_of Prove = queries.LONGEST_FILE
+
 -- the command that a value stands for
 abbrev pub asked : Command → words.Command
 asked (Calculus spec) = words.Calculus spec.now
-asked (Verify spec rules) = words.Verify spec.now rules.now
+asked (OnBoth work spec input) = on_both work spec.now input.now
 
 -- the bytes that are put, under this status, answer the words
 abbrev pub IsAnswer : Option words.Command → FilesState → FilesState → Answer → Type 0
@@ -43,3 +57,7 @@ ReadStops files files_after file Memory = Unit {0}
 -- the status of verdicts on rules, by whether all of them are right
 abbrev pub verdict_status : Bool → Status
 verdict_status right = if right then Done else Rejected
+
+-- the status of answers to queries, by whether all of them are proved
+abbrev pub answer_status : Bool → Status
+answer_status all_proved = if all_proved then Done else Refuted

@@ -7,14 +7,14 @@ ghost use Rattle.lgc_spec.specs.Logics.{logic_of};
 ghost use Rattle.lgc_syntax.specs.declared.fault.TheConstants.{FILE_TOO_LONG};
 ghost use Rattle.lgc_top.specs.FaultLine.{fault_line, input_line};
 ghost use Rattle.lgc_top.specs.Commands as commands;
-ghost use Rattle.lgc_top.specs.Commands.{Calculus, Verify, spec_of, input_of, command_of};
+ghost use Rattle.lgc_top.specs.Commands.{Calculus, Verify, Prove, spec_of, input_of, command_of};
 ghost use Rattle.lgc_top.specs.Run.{HasSpec, HasInput, HasInputFault};
-ghost use Rattle.lgc_top.specs.Steps.{Answered, Stops, ReadStops, Refuses, verdict_status};
+ghost use Rattle.lgc_top.specs.Steps.{on_both, limit_of, Answered, Stops, ReadStops, Refuses, verdict_status, answer_status};
 
-use crate::command::{Command, command_of};
+use crate::command::{Command, Work, command_of};
 use crate::fault_line::{fault_line, input_line, read_line};
 use crate::status::Status;
-use crate::work::{calculus_of, verdicts_of};
+use crate::work::{calculus_of, report_of, verdicts_of};
 use lgc_io::{FileFault, Files, Reading};
 use lgc_spec::{Kept, Spec, SpecFault, read_spec};
 use lgc_syntax::InputFault;
@@ -191,29 +191,87 @@ fn verdicts(alloc: Global, spec: &Spec, bytes: &[u8]) -> Result<Answer, Stop>
     }
 }
 
-// Verdicts on the rules in the file of this name, which is the second file.
-fn verify_against<F: Files>(
+fn answer_status(all_proved: bool) -> Status
+    ensures { result ≡ answer_status all_proved }
+{
+    if all_proved {
+        Status::Done
+    } else {
+        Status::Refuted
+    }
+}
+
+fn report(alloc: Global, spec: &Spec, bytes: &[u8]) -> Result<Answer, Stop>
+    requires logic { IsLogic (logic_of spec.now) }
+    requires designated { spec.now.designated < 2 ^ length spec.now.values }
+    ensures { (file queries : List ℕ) (files files_after : FilesState) → files_after ≡ files → HasInput (Prove file queries) files spec.now bytes.now →
+        Answered (Some (Prove file queries)) files files_after result }
+{
+    match report_of(alloc, spec, bytes) {
+        Ok(answered) => Ok(Answer {
+            status: answer_status(answered.all_proved),
+            bytes: answered.text,
+        }),
+        Err(InputFault::Fault { number, offset }) => Err(bad_input(alloc, number, offset)),
+        Err(InputFault::Memory) => Err(Stop::Memory),
+    }
+}
+
+// ---- commands on two files
+
+// The greatest length of the second file.
+fn limit_of(work: Work) -> u32
+    ensures { result ≡ limit_of work }
+{
+    match work {
+        Work::Verify => lgc_rules::LONGEST_FILE as u32,
+        Work::Prove => lgc_queries::LONGEST_FILE as u32,
+    }
+}
+
+// The work on the bytes of the second file.
+fn work_on(alloc: Global, spec: &Spec, bytes: &[u8], work: Work) -> Result<Answer, Stop>
+    requires logic { IsLogic (logic_of spec.now) }
+    requires designated { spec.now.designated < 2 ^ length spec.now.values }
+    ensures { (file input : List ℕ) (files files_after : FilesState) → files_after ≡ files → HasInput (on_both work file input) files spec.now bytes.now →
+        Answered (Some (on_both work file input)) files files_after result }
+{
+    match work {
+        Work::Verify => verdicts(alloc, spec, bytes),
+        Work::Prove => report(alloc, spec, bytes),
+    }
+}
+
+// The work on the file of this name, which is the second file.
+fn work_against<F: Files>(
     alloc: Global,
     files: &mut F,
     spec: &Spec,
-    rules: &str,
+    input: &str,
+    work: Work,
 ) -> Result<Answer, Stop>
     requires logic { IsLogic (logic_of spec.now) }
     requires designated { spec.now.designated < 2 ^ length spec.now.values }
-    ensures { (file : List ℕ) → HasSpec (Verify file rules.now) (F.state files.old) spec.now →
-        Answered (Some (Verify file rules.now)) (F.state files.old) (F.state files.new) result }
+    ensures { (file : List ℕ) → HasSpec (on_both work file input.now) (F.state files.old) spec.now →
+        Answered (Some (on_both work file input.now)) (F.state files.old) (F.state files.new) result }
 {
-    match read_second(alloc, files, rules, lgc_rules::LONGEST_FILE as u32) {
-        Ok(bytes) => verdicts(alloc, spec, &bytes),
+    match read_second(alloc, files, input, limit_of(work)) {
+        Ok(bytes) => work_on(alloc, spec, &bytes, work),
         Err(stop) => Err(stop),
     }
 }
 
-fn verify<F: Files>(alloc: Global, files: &mut F, name: &str, rules: &str) -> Result<Answer, Stop>
-    ensures { Answered (Some (Verify name.now rules.now)) (F.state files.old) (F.state files.new) result }
+fn on_both<F: Files>(
+    alloc: Global,
+    files: &mut F,
+    name: &str,
+    input: &str,
+    work: Work,
+) -> Result<Answer, Stop>
+    ensures { Answered (Some (on_both work name.now input.now)) (F.state files.old) (F.state files.new) result }
 {
     match read_first(alloc, files, name) {
-        Ok(spec) => verify_against(alloc, files, &spec, rules),
+        Ok(spec) => work_against(alloc, files, &spec, input, work),
         Err(stop) => Err(stop),
     }
 }
@@ -240,7 +298,7 @@ pub(crate) fn answer_to<F: Files>(
 {
     match command_of(words) {
         Some(Command::Calculus(spec)) => calculus(alloc, files, spec),
-        Some(Command::Verify(spec, rules)) => verify(alloc, files, spec, rules),
+        Some(Command::OnBoth(work, spec, input)) => on_both(alloc, files, spec, input, work),
         None => usage(alloc),
     }
 }

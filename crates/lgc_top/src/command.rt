@@ -1,16 +1,25 @@
 // The words of the command line.
-ghost use Rattle.std.specs.Prelude.{◌≡◌, map, string_bytes};
+ghost use Rattle.std.specs.Prelude.{◌≡◌, ℕ, List, map, string_bytes};
 ghost use Rattle.std.specs.Option.{option_map};
-ghost use Rattle.lgc_top.specs.Commands.{is_file_name, command_on, command_on_both, command_of};
-ghost use Rattle.lgc_top.specs.Steps.{asked};
+ghost use Rattle.lgc_top.specs.Commands.{is_file_name, command_on, command_named, command_on_both, command_of};
+ghost use Rattle.lgc_top.specs.Steps.{asked, on_both};
+
+/// What is done with a second file, for the logic of the first.
+#[derive(Clone, Copy)]
+pub(crate) enum Work {
+    /// Verdicts on its rules.
+    Verify,
+    /// Answers to its queries.
+    Prove,
+}
 
 /// What the words ask for.
 #[derive(Clone, Copy)]
 pub(crate) enum Command<'a> {
     /// The calculus of the specification in the file of this name.
     Calculus(&'a str),
-    /// Verdicts on the rules in the second file, for the logic of the first.
-    Verify(&'a str, &'a str),
+    /// Some work on the files of these names.
+    OnBoth(Work, &'a str, &'a str),
 }
 
 fn is_file_name(word: &str) -> bool
@@ -29,11 +38,22 @@ fn command_on<'a>(word: &str, spec: &'a str) -> Option<Command<'a>>
     }
 }
 
+fn work_of(word: &str) -> Option<Work>
+    ensures { (spec input : List ℕ) → option_map (λ work. on_both work spec input) result ≡ command_named word.now spec input }
+{
+    match word {
+        "verify" => Some(Work::Verify),
+        "prove" => Some(Work::Prove),
+        _ => None,
+    }
+}
+
 fn command_on_both<'a>(word: &str, spec: &'a str, input: &'a str) -> Option<Command<'a>>
     ensures { option_map asked result ≡ command_on_both word.now spec.now input.now }
 {
-    if word == "verify" && is_file_name(spec) && is_file_name(input) {
-        Some(Command::Verify(spec, input))
+    if is_file_name(spec) && is_file_name(input) {
+        let work = work_of(word)?;
+        Some(Command::OnBoth(work, spec, input))
     } else {
         None
     }

@@ -3,12 +3,14 @@
 //!
 //! [`run_multlog`] is the one call that the program makes. Its contract is the promise of the whole: with the status
 //! [`Status::Done`] the output of `calculus` gains the text of a calculus of the file's logic, each rule of which is exact
-//! and irredundant, and that of `verify` the verdicts on the rules of a file. `specs/Run.antt` says of every status when it
+//! and irredundant, that of `verify` the verdicts on the rules of a file, and that of `prove` a report that proves the queries of a file;
+//! with [`Status::Refuted`] some of them are refuted there. `specs/Run.antt` says of every status when it
 //! comes and what is put under it, and `specs/Means.antt` which status the files of a command mean.
 //!
 //! The words are told apart in `command`, and the files are read and the answer is made in `answer`, in the order of refusals:
 //! the first file, its faults, the second file, its faults, and then the work (`work`). `lgc_spec` reads the specification and
-//! `lgc_rules` the rules, `lgc_calculus` derives rules, `lgc_print` prints them, and `lgc_verify` judges them.
+//! `lgc_rules` the rules, `lgc_calculus` derives rules, `lgc_print` prints them, and `lgc_verify` judges them. `lgc_queries` reads queries,
+//! and `lgc_prove` answers them.
 #![tactic(auto)]
 
 mod answer;

@@ -2,8 +2,8 @@
 ghost use Rattle.std.specs.Prelude.{◌≡◌, ◌⊎◌, ℕ, List, Some, map, true, false, string_bytes};
 ghost use Rattle.lgc_io.specs.Files.{FilesState};
 ghost use Rattle.lgc_top.specs.declared.status.Status.{Status};
-ghost use Rattle.lgc_top.specs.Commands.{Calculus, Verify, command_of};
-ghost use Rattle.lgc_top.specs.Run.{run_of, Answers, Ends, PrintsCalculus, PrintsVerdicts, AfterPut};
+ghost use Rattle.lgc_top.specs.Commands.{Calculus, Verify, Prove, command_of};
+ghost use Rattle.lgc_top.specs.Run.{run_of, Answers, Ends, PrintsCalculus, PrintsVerdicts, PrintsReport, AfterPut};
 ghost use Rattle.lgc_top.specs.Means.{IsFaultless, Means};
 
 use crate::answer::{Answer, Stop, answer_to};
@@ -58,9 +58,9 @@ fn run_words<F: Files, O: Sink, E: Sink>(
 /// Runs the program on the words of its command line, after its own name.
 ///
 /// Each status comes with its cause, and all bytes of its answer then stand in one sink: in `out` with
-/// `Done` and `Rejected`, and else in `err`; the other sink is as it was. `WriteFault` comes where a put failed:
+/// `Done`, `Refuted` and `Rejected`, and else in `err`; the other sink is as it was. `WriteFault` comes where a put failed:
 /// that sink then has the first of the bytes, and its count of faults rose. With `Memory` nothing was put. Under `Done`,
-/// `Usage`, `BadSpec`, `BadInput` and `Rejected` the files are as they were, so none of these passes over a failed read.
+/// `Refuted`, `Usage`, `BadSpec`, `BadInput` and `Rejected` the files are as they were, so none of these passes over a failed read.
 pub fn run_multlog<F: Files, O: Sink, E: Sink>(
     alloc: Global,
     words: &[String],
@@ -80,6 +80,13 @@ pub fn run_multlog<F: Files, O: Sink, E: Sink>(
         (file rules : List ℕ) → command_of (map string_bytes words.now) ≡ Some (Verify file rules) → result ≡ Status.Done → PrintsVerdicts run file rules true }
     ensures rejected { let run = run_of (map string_bytes words.now) (F.state files.old) (F.state files.new) (O.state out.old) (O.state out.new) (E.state err.old) (E.state err.new) in
         (file rules : List ℕ) → command_of (map string_bytes words.now) ≡ Some (Verify file rules) → result ≡ Status.Rejected → PrintsVerdicts run file rules false }
+
+    // With `Done` or `Refuted` the output of `prove` gained the text of a report that answers the queries: each claim is proved, by irredundant
+    // rules, exactly where every valuation satisfies its query, and else a valuation refutes it. With `Done` all are proved.
+    ensures proved { let run = run_of (map string_bytes words.now) (F.state files.old) (F.state files.new) (O.state out.old) (O.state out.new) (E.state err.old) (E.state err.new) in
+        (file queries : List ℕ) → command_of (map string_bytes words.now) ≡ Some (Prove file queries) → result ≡ Status.Done → PrintsReport run file queries true }
+    ensures refuted { let run = run_of (map string_bytes words.now) (F.state files.old) (F.state files.new) (O.state out.old) (O.state out.new) (E.state err.old) (E.state err.new) in
+        (file queries : List ℕ) → command_of (map string_bytes words.now) ≡ Some (Prove file queries) → result ≡ Status.Refuted → PrintsReport run file queries false }
 
     // Where the files are told, the status is the one that they mean, unless something fails or memory runs out: `BadSpec` for a
     // fault of the specification, then `BadInput` for one of the second file, and else that of the work.

@@ -7,6 +7,8 @@ ghost use Rattle.lgc_top.specs.Run.{number_of, goes_out};
 pub enum Status {
     /// The command was carried out.
     Done,
+    /// The command was carried out, and some query isn't satisfied by some valuation.
+    Refuted,
     /// The words are no command.
     Usage,
     /// The specification has a fault.
@@ -29,6 +31,7 @@ pub fn exit_number(status: &Status) -> u8
 {
     match status {
         Status::Done => 0,
+        Status::Refuted => 1,
         Status::Usage => 2,
         Status::BadSpec => 3,
         Status::BadInput => 4,
@@ -43,5 +46,5 @@ pub fn exit_number(status: &Status) -> u8
 pub(crate) fn goes_out(status: Status) -> bool
     ensures { result ≡ goes_out status }
 {
-    matches!(status, Status::Done | Status::Rejected)
+    matches!(status, Status::Done | Status::Refuted | Status::Rejected)
 }

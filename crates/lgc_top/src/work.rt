@@ -4,9 +4,12 @@ ghost use Rattle.lgc_values.specs.Logic.{IsLogic};
 ghost use Rattle.lgc_spec.specs.Logics.{logic_of};
 ghost use Rattle.lgc_top.specs.Calculus.{IsCalculusText};
 ghost use Rattle.lgc_top.specs.Verify.{JudgesBytes};
+ghost use Rattle.lgc_top.specs.Prove.{ReportsOnBytes};
 
 use lgc_calculus::derive_calculus;
 use lgc_print::calculus_text;
+use lgc_prove::{Answered, prove_queries};
+use lgc_queries::read_queries;
 use lgc_rules::read_rules;
 use lgc_spec::{Spec, matrix_of};
 use lgc_syntax::InputFault;
@@ -34,6 +37,19 @@ fn verdicts<const N: usize>(alloc: Global, spec: &Spec, bytes: &[u8]) -> Result<
     let m: Matrix<N> = matrix_of(alloc, spec)?;
     match read_rules(alloc, &m, bytes) {
         Ok(rules) => Ok(judge_rules(alloc, &m, rules.items())?),
+        Err(fault) => Err(fault),
+    }
+}
+
+fn report<const N: usize>(alloc: Global, spec: &Spec, bytes: &[u8]) -> Result<Answered, InputFault>
+    requires size { length spec.now.values ≡ N }
+    requires logic { IsLogic (logic_of spec.now) }
+    requires designated { spec.now.designated < 2 ^ N }
+    ensures { ReportsOnBytes (logic_of spec.now) bytes.now result }
+{
+    let m: Matrix<N> = matrix_of(alloc, spec)?;
+    match read_queries(alloc, &m, bytes) {
+        Ok(queries) => Ok(prove_queries(alloc, &m, queries)?),
         Err(fault) => Err(fault),
     }
 }
@@ -76,4 +92,15 @@ pub(crate) fn verdicts_of(alloc: Global, spec: &Spec, bytes: &[u8]) -> Result<Ju
 {
     let size = spec.values.len();
     at_size!(size, verdicts(alloc, spec, bytes))
+}
+
+/// The text of a report that answers the queries of a query file for the specification's logic, and whether all of them are proved; or the
+/// file's first fault.
+pub(crate) fn report_of(alloc: Global, spec: &Spec, bytes: &[u8]) -> Result<Answered, InputFault>
+    requires logic { IsLogic (logic_of spec.now) }
+    requires designated { spec.now.designated < 2 ^ length spec.now.values }
+    ensures { ReportsOnBytes (logic_of spec.now) bytes.now result }
+{
+    let size = spec.values.len();
+    at_size!(size, report(alloc, spec, bytes))
 }

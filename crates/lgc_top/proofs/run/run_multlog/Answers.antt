@@ -1,4 +1,4 @@
-use Rattle.lgc_top.proofs.Endings.{prints_calculus, prints_right, prints_rejected}
+use Rattle.lgc_top.proofs.Endings.{prints_calculus, prints_right, prints_rejected, prints_proved, prints_refuted}
 use Rattle.lgc_top.proofs.Meanings.{completes}
 use Rattle.lgc_top.proofs.run.run_multlog.Goals as goal
 
@@ -10,6 +10,12 @@ returns-clause-right g c file rules = prints_right _ file rules _ c.run_words.en
 
 pub returns-clause-rejected : goal.returns-clause-rejected
 returns-clause-rejected g c file rules = prints_rejected _ file rules _ c.run_words.ensures
+
+pub returns-clause-proved : goal.returns-clause-proved
+returns-clause-proved g c file queries = prints_proved _ file queries _ c.run_words.ensures
+
+pub returns-clause-refuted : goal.returns-clause-refuted
+returns-clause-refuted g c file queries = prints_refuted _ file queries _ c.run_words.ensures
 
 pub returns-clause-complete : goal.returns-clause-complete
 returns-clause-complete g c meant means none = completes _ meant means none _ c.run_words.ensures
