@@ -11,6 +11,8 @@
 //! - `== run WORDS`: the words of a command line, with a blank between them; `== run` alone has none.
 //! - `== out NUMBER` and `== err NUMBER`: the run ends with this number, and the lines behind it are what it puts to the output
 //!   or to the standard error. The other one stays empty.
+//! - `== claims NUMBER`: the run ends with this number and puts a report to the output, whose claims are the lines behind it. A claim that
+//!   ends with `refuted` leaves out the valuation, and `proved by 3 lines` tells how many lines are cited.
 //!
 //! - `== lets`: the formulas of the lines behind it have the numbers from 1 on, each read where those before it have theirs.
 //! - `== formula`, `== numbered`, `== term`, `== instance`, `== query`, `== numbered_query`, `== queries`, `== goals`, `== atoms` and
@@ -31,7 +33,7 @@ mod tests;
 use std::{fs, io};
 use table::Table;
 
-const TABLES: [&str; 7] = [
+const TABLES: [&str; 8] = [
     "commands.txt",
     "calculus.txt",
     "spec_faults.txt",
@@ -39,6 +41,7 @@ const TABLES: [&str; 7] = [
     "input_faults.txt",
     "formulas.txt",
     "queries.txt",
+    "prove.txt",
 ];
 
 // Makes the runs of the table in this file.

@@ -7,6 +7,7 @@ use lgc_syntax::{Formula, InputFault};
 use lgc_top::{exit_number, run_multlog};
 use lgc_values::{List, Name};
 use std::alloc::{AllocError, Global};
+use std::str;
 
 /// What a table has told so far: the bytes of the files `l.lgc` and `r.txt`, the formulas that have numbers, and the next run.
 #[derive(Drop)]
@@ -53,6 +54,7 @@ impl Table {
             "run" => self.set_words(line.strip_prefix("run ")),
             "out" => self.ends(rest, lines, ""),
             "err" => self.ends(rest, "", lines),
+            "claims" => self.claims(rest, lines),
             "lets" => self.set_lets(lines),
             _ => match asked_of(kind) {
                 Some(asked) => self.answers(asked, lines),
@@ -132,8 +134,8 @@ impl Table {
         Ok(true)
     }
 
-    // Makes the run. Whether it ends with this number, and these lines stand in the two sinks.
-    fn ends(&mut self, number: &str, out: &str, err: &str) -> Result<bool, AllocError> {
+    // Makes the run.
+    fn make(&mut self) -> Result<Ended, AllocError> {
         let alloc = self.alloc;
         self.runs = self.runs.saturating_add(1);
         let contents = contents_of(alloc, &self.spec, &self.input)?;
@@ -144,11 +146,75 @@ impl Table {
         let whole = self.room.is_none();
         self.failing = None;
         self.room = None;
+        Ok(Ended {
+            number: exit_number(&status),
+            output,
+            error,
+            whole,
+        })
+    }
+
+    // Makes the run. Whether it ends with this number, and these lines stand in the two sinks.
+    fn ends(&mut self, number: &str, out: &str, err: &str) -> Result<bool, AllocError> {
+        let ended = self.make()?;
         Ok(
-            number.parse() == Ok(exit_number(&status))
-                && is_put(output.bytes(), out, whole)
-                && is_put(error.bytes(), err, whole),
+            number.parse() == Ok(ended.number)
+                && is_put(ended.output.bytes(), out, ended.whole)
+                && is_put(ended.error.bytes(), err, ended.whole),
         )
+    }
+
+    // Makes the run. Whether it ends with this number, and the output is a report with these claims.
+    fn claims(&mut self, number: &str, claims: &str) -> Result<bool, AllocError> {
+        let ended = self.make()?;
+        let Ok(report) = str::from_utf8(ended.output.bytes()) else {
+            return Ok(false);
+        };
+        Ok(
+            number.parse() == Ok(ended.number)
+                && ended.error.bytes().is_empty()
+                && are_claims(report, claims),
+        )
+    }
+}
+
+// How a run ended: the number, what was put to the two sinks, and whether no put was to fail.
+#[derive(Drop)]
+struct Ended {
+    number: u8,
+    output: MemorySink,
+    error: MemorySink,
+    whole: bool,
+}
+
+// Whether the claims of a report are these, in order.
+fn are_claims(report: &str, claims: &str) -> bool {
+    let mut expected = claims.lines();
+    for line in report.lines() {
+        if line.starts_with("claim ") {
+            match expected.next() {
+                Some(claim) if is_claim(line, claim) => {}
+                _ => return false,
+            }
+        }
+    }
+    expected.next().is_none()
+}
+
+// Whether a line is a claim, where the claim may leave out the valuation and tell how many lines are cited.
+fn is_claim(line: &str, claim: &str) -> bool {
+    match claim.split_once(" proved by ") {
+        Some((asked, lines)) => match line.split_once(" proved by ") {
+            Some((query, cited)) => {
+                let (count, _) = lines.split_once(' ').unwrap_or((lines, ""));
+                query == asked && count.parse() == Ok(cited.split(',').count())
+            }
+            None => false,
+        },
+        None => match line.strip_prefix(claim) {
+            Some(rest) => rest.is_empty() || rest.starts_with(" at {"),
+            None => false,
+        },
     }
 }
 
