@@ -5,8 +5,8 @@
 //! - [`has_readable_names`] and [`has_readable_term_names`] test what that asks of names. Each formula that `read_formula` answers has
 //!   them, so its text can be written and read back.
 //!
-//! `specs/Writable.antt` says what that needs: names of the right forms, and the limits of what is read. `proofs/Written.antt` has
-//! the law for a formula inside a longer text, of any grammar, and `proofs/ReadFormulas.antt` that for what is read.
+//! `specs/Writable.antt` of `lgc_formulas` says what that needs: names of the right forms, and the limits of what is read.
+//! `proofs/Written.antt` has the law for a formula inside a longer text, of any grammar, and `proofs/ReadFormulas.antt` that for what is read.
 #![tactic(auto)]
 
 mod names;

@@ -4,7 +4,8 @@ ghost use Rattle.std.specs.List.{zip};
 ghost use Rattle.lgc_values.specs.Values.{has};
 ghost use Rattle.lgc_packed.specs.Packed.{marks, added_all, marks_either, marks_besides};
 
-use crate::{Packed, copy_packed};
+use crate::Packed;
+use crate::packed::copy_packed;
 use lgc_values::ValueSet;
 use std::alloc::{AllocError, Global};
 

@@ -2,8 +2,8 @@
 //!
 //! - [`Packed`] is a sequent whose formulas are numbers, which rise. Its sets of values have members, so sequents that include each
 //!   other are equal as lists.
-//! - [`copy_packed`] copies one, [`without_pair`] leaves a pair out, and [`with_clause`] and [`keep_besides`] join clauses at arguments
-//!   and what a sequent has besides one.
+//! - [`without_pair`] leaves a pair out, and [`with_clause`] and [`keep_besides`] join clauses at arguments and what a sequent has
+//!   besides one.
 //! - [`pack`] makes one of a sequent, by the numbers of its formulas, and [`unpack`] the sequent of one.
 //! - [`included_in`] compares two sequents, and [`full_at`] looks for a formula that carries all truth values.
 #![tactic(auto)]
@@ -15,5 +15,5 @@ mod packing;
 
 pub use clauses::{keep_besides, with_clause};
 pub use inclusion::{full_at, included_in};
-pub use packed::{Packed, copy_packed, without_pair};
+pub use packed::{Packed, without_pair};
 pub use packing::{pack, unpack};

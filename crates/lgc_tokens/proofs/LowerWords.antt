@@ -30,4 +30,18 @@ word_is_lower text =
     (choose (bytes_eq text (codes "entail")) _ _ refl
     (choose (bytes_eq text (codes "mixed")) _ _ refl
     (choose (bytes_eq text (codes "equation")) _ _ refl
-    (choose (bytes_eq text (codes "quasi")) _ _ refl refl))))))))))))))))))
+    (choose (bytes_eq text (codes "quasi")) _ _ refl
+    (choose (bytes_eq text (codes "report")) _ _ refl
+    (choose (bytes_eq text (codes "line")) _ _ refl
+    (choose (bytes_eq text (codes "by")) _ _ refl
+    (choose (bytes_eq text (codes "axiom")) _ _ refl
+    (choose (bytes_eq text (codes "pending")) _ _ refl
+    (choose (bytes_eq text (codes "on")) _ _ refl
+    (choose (bytes_eq text (codes "from")) _ _ refl
+    (choose (bytes_eq text (codes "resolve")) _ _ refl
+    (choose (bytes_eq text (codes "claim")) _ _ refl
+    (choose (bytes_eq text (codes "proved")) _ _ refl
+    (choose (bytes_eq text (codes "refuted")) _ _ refl
+    (choose (bytes_eq text (codes "unfinished")) _ _ refl
+    (choose (bytes_eq text (codes "holds")) _ _ refl
+    (choose (bytes_eq text (codes "end")) _ _ refl refl))))))))))))))))))))))))))))))))

@@ -10,7 +10,7 @@ use Rattle.lgc_grammar.proofs.Classes.{IsTable, entry, all_pass, apart}
 use Rattle.lgc_lexer.specs.declared.token.Kind.{Kind}
 use Rattle.lgc_lexer.specs.declared.token.Kind.TheVariants as kind
 use Rattle.lgc_tokens.specs.declared.class.Class.{Class}
-use Rattle.lgc_tokens.specs.declared.class.Class.TheVariants.{LogicWord, ValuesWord, DesignatedWord, OrderingWord, OperatorWord, QuantifierWord, MappingWord, TableWord, InducedWord, InfWord, SupWord, RuleWord, AtWord, AllWord, SomeWord, EntailWord, MixedWord, EquationWord, QuasiWord, Lower, Upper, Zero, CaretZero, Number, LongNumber, Digits, Mixed, Quoted, Text, Less, Caret, Turnstile, Equals, Hash, Symbol, OpenRound, CloseRound, OpenBrace, CloseBrace, OpenSquare, CloseSquare, Comma, Dot, Colon, Semicolon, Slash, Punct}
+use Rattle.lgc_tokens.specs.declared.class.Class.TheVariants.{LogicWord, ValuesWord, DesignatedWord, OrderingWord, OperatorWord, QuantifierWord, MappingWord, TableWord, InducedWord, InfWord, SupWord, RuleWord, AtWord, AllWord, SomeWord, EntailWord, MixedWord, EquationWord, QuasiWord, ReportWord, LineWord, ByWord, AxiomWord, PendingWord, OnWord, FromWord, ResolveWord, ClaimWord, ProvedWord, RefutedWord, UnfinishedWord, HoldsWord, EndWord, Lower, Upper, Zero, CaretZero, Number, LongNumber, Digits, Mixed, Quoted, Text, Less, Caret, Turnstile, Equals, Hash, Symbol, OpenRound, CloseRound, OpenBrace, CloseBrace, OpenSquare, CloseSquare, Comma, Dot, Colon, Semicolon, Slash, Punct}
 use Rattle.lgc_tokens.specs.declared.terminal.Terminal.{Terminal}
 use Rattle.lgc_tokens.specs.declared.terminal.Terminal.TheVariants as terminal
 use Rattle.lgc_tokens.specs.Numbers.{number_in, long_number_in}
@@ -52,6 +52,20 @@ token EntailWord = spelt kind.Lower (codes "entail")
 token MixedWord = spelt kind.Lower (codes "mixed")
 token EquationWord = spelt kind.Lower (codes "equation")
 token QuasiWord = spelt kind.Lower (codes "quasi")
+token ReportWord = spelt kind.Lower (codes "report")
+token LineWord = spelt kind.Lower (codes "line")
+token ByWord = spelt kind.Lower (codes "by")
+token AxiomWord = spelt kind.Lower (codes "axiom")
+token PendingWord = spelt kind.Lower (codes "pending")
+token OnWord = spelt kind.Lower (codes "on")
+token FromWord = spelt kind.Lower (codes "from")
+token ResolveWord = spelt kind.Lower (codes "resolve")
+token ClaimWord = spelt kind.Lower (codes "claim")
+token ProvedWord = spelt kind.Lower (codes "proved")
+token RefutedWord = spelt kind.Lower (codes "refuted")
+token UnfinishedWord = spelt kind.Lower (codes "unfinished")
+token HoldsWord = spelt kind.Lower (codes "holds")
+token EndWord = spelt kind.Lower (codes "end")
 token Lower = spelt kind.Lower (codes "x")
 token Upper = spelt kind.Upper (codes "X")
 token Zero = spelt kind.Digits (codes "0")

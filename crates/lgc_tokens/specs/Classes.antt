@@ -6,7 +6,7 @@ use Rattle.std.specs.Char.{is_ascii_digit}
 use Rattle.lgc_lexer.specs.declared.token.Kind.{Kind}
 use Rattle.lgc_lexer.specs.declared.token.Kind.TheVariants as kind
 use Rattle.lgc_tokens.specs.declared.class.Class.{Class}
-use Rattle.lgc_tokens.specs.declared.class.Class.TheVariants.{LogicWord, ValuesWord, DesignatedWord, OrderingWord, OperatorWord, QuantifierWord, MappingWord, TableWord, InducedWord, InfWord, SupWord, RuleWord, AtWord, AllWord, SomeWord, EntailWord, MixedWord, EquationWord, QuasiWord, Lower, Upper, Zero, CaretZero, Number, LongNumber, Digits, Mixed, Quoted, Text, Less, Caret, Turnstile, Equals, Hash, Symbol, OpenRound, CloseRound, OpenBrace, CloseBrace, OpenSquare, CloseSquare, Comma, Dot, Colon, Semicolon, Slash, Punct}
+use Rattle.lgc_tokens.specs.declared.class.Class.TheVariants.{LogicWord, ValuesWord, DesignatedWord, OrderingWord, OperatorWord, QuantifierWord, MappingWord, TableWord, InducedWord, InfWord, SupWord, RuleWord, AtWord, AllWord, SomeWord, EntailWord, MixedWord, EquationWord, QuasiWord, ReportWord, LineWord, ByWord, AxiomWord, PendingWord, OnWord, FromWord, ResolveWord, ClaimWord, ProvedWord, RefutedWord, UnfinishedWord, HoldsWord, EndWord, Lower, Upper, Zero, CaretZero, Number, LongNumber, Digits, Mixed, Quoted, Text, Less, Caret, Turnstile, Equals, Hash, Symbol, OpenRound, CloseRound, OpenBrace, CloseBrace, OpenSquare, CloseSquare, Comma, Dot, Colon, Semicolon, Slash, Punct}
 use Rattle.lgc_tokens.specs.declared.terminal.Terminal.{Terminal}
 use Rattle.lgc_tokens.specs.declared.terminal.Terminal.TheVariants as terminal
 use Rattle.lgc_tokens.specs.Numbers.{number_in, long_number_in}
@@ -14,7 +14,7 @@ use Rattle.lgc_tokens.specs.Spelled.{Spelled}
 
 -- all classes
 abbrev pub classes : List Class
-classes = LogicWord ∷ ValuesWord ∷ DesignatedWord ∷ OrderingWord ∷ OperatorWord ∷ QuantifierWord ∷ MappingWord ∷ TableWord ∷ InducedWord ∷ InfWord ∷ SupWord ∷ RuleWord ∷ AtWord ∷ AllWord ∷ SomeWord ∷ EntailWord ∷ MixedWord ∷ EquationWord ∷ QuasiWord ∷ Lower ∷ Upper ∷ Zero ∷ CaretZero ∷ Number ∷ LongNumber ∷ Digits ∷ Mixed ∷ Quoted ∷ Text ∷ Less ∷ Caret ∷ Turnstile ∷ Equals ∷ Hash ∷ Symbol ∷ OpenRound ∷ CloseRound ∷ OpenBrace ∷ CloseBrace ∷ OpenSquare ∷ CloseSquare ∷ Comma ∷ Dot ∷ Colon ∷ Semicolon ∷ Slash ∷ Punct ∷ []
+classes = LogicWord ∷ ValuesWord ∷ DesignatedWord ∷ OrderingWord ∷ OperatorWord ∷ QuantifierWord ∷ MappingWord ∷ TableWord ∷ InducedWord ∷ InfWord ∷ SupWord ∷ RuleWord ∷ AtWord ∷ AllWord ∷ SomeWord ∷ EntailWord ∷ MixedWord ∷ EquationWord ∷ QuasiWord ∷ ReportWord ∷ LineWord ∷ ByWord ∷ AxiomWord ∷ PendingWord ∷ OnWord ∷ FromWord ∷ ResolveWord ∷ ClaimWord ∷ ProvedWord ∷ RefutedWord ∷ UnfinishedWord ∷ HoldsWord ∷ EndWord ∷ Lower ∷ Upper ∷ Zero ∷ CaretZero ∷ Number ∷ LongNumber ∷ Digits ∷ Mixed ∷ Quoted ∷ Text ∷ Less ∷ Caret ∷ Turnstile ∷ Equals ∷ Hash ∷ Symbol ∷ OpenRound ∷ CloseRound ∷ OpenBrace ∷ CloseBrace ∷ OpenSquare ∷ CloseSquare ∷ Comma ∷ Dot ∷ Colon ∷ Semicolon ∷ Slash ∷ Punct ∷ []
 
 -- the place of a class among them
 abbrev pub place : Class → ℕ
@@ -37,34 +37,48 @@ place EntailWord = 15
 place MixedWord = 16
 place EquationWord = 17
 place QuasiWord = 18
-place Lower = 19
-place Upper = 20
-place Zero = 21
-place CaretZero = 22
-place Number = 23
-place LongNumber = 24
-place Digits = 25
-place Mixed = 26
-place Quoted = 27
-place Text = 28
-place Less = 29
-place Caret = 30
-place Turnstile = 31
-place Equals = 32
-place Hash = 33
-place Symbol = 34
-place OpenRound = 35
-place CloseRound = 36
-place OpenBrace = 37
-place CloseBrace = 38
-place OpenSquare = 39
-place CloseSquare = 40
-place Comma = 41
-place Dot = 42
-place Colon = 43
-place Semicolon = 44
-place Slash = 45
-place Punct = 46
+place ReportWord = 19
+place LineWord = 20
+place ByWord = 21
+place AxiomWord = 22
+place PendingWord = 23
+place OnWord = 24
+place FromWord = 25
+place ResolveWord = 26
+place ClaimWord = 27
+place ProvedWord = 28
+place RefutedWord = 29
+place UnfinishedWord = 30
+place HoldsWord = 31
+place EndWord = 32
+place Lower = 33
+place Upper = 34
+place Zero = 35
+place CaretZero = 36
+place Number = 37
+place LongNumber = 38
+place Digits = 39
+place Mixed = 40
+place Quoted = 41
+place Text = 42
+place Less = 43
+place Caret = 44
+place Turnstile = 45
+place Equals = 46
+place Hash = 47
+place Symbol = 48
+place OpenRound = 49
+place CloseRound = 50
+place OpenBrace = 51
+place CloseBrace = 52
+place OpenSquare = 53
+place CloseSquare = 54
+place Comma = 55
+place Dot = 56
+place Colon = 57
+place Semicolon = 58
+place Slash = 59
+place Punct = 60
 
 abbrev pub same : Class → Class → Bool
 same c d = place c == place d
@@ -91,7 +105,21 @@ class_of_word text =
     else (if bytes_eq text (codes "mixed") then MixedWord
     else (if bytes_eq text (codes "equation") then EquationWord
     else (if bytes_eq text (codes "quasi") then QuasiWord
-    else Lower))))))))))))))))))
+    else (if bytes_eq text (codes "report") then ReportWord
+    else (if bytes_eq text (codes "line") then LineWord
+    else (if bytes_eq text (codes "by") then ByWord
+    else (if bytes_eq text (codes "axiom") then AxiomWord
+    else (if bytes_eq text (codes "pending") then PendingWord
+    else (if bytes_eq text (codes "on") then OnWord
+    else (if bytes_eq text (codes "from") then FromWord
+    else (if bytes_eq text (codes "resolve") then ResolveWord
+    else (if bytes_eq text (codes "claim") then ClaimWord
+    else (if bytes_eq text (codes "proved") then ProvedWord
+    else (if bytes_eq text (codes "refuted") then RefutedWord
+    else (if bytes_eq text (codes "unfinished") then UnfinishedWord
+    else (if bytes_eq text (codes "holds") then HoldsWord
+    else (if bytes_eq text (codes "end") then EndWord
+    else Lower))))))))))))))))))))))))))))))))
 
 -- a number: 0 without or with a Symbol ^ behind it, or another one
 abbrev pub class_of_number : ℕ → Bool → Class
@@ -166,6 +194,20 @@ is_lower EntailWord = true
 is_lower MixedWord = true
 is_lower EquationWord = true
 is_lower QuasiWord = true
+is_lower ReportWord = true
+is_lower LineWord = true
+is_lower ByWord = true
+is_lower AxiomWord = true
+is_lower PendingWord = true
+is_lower OnWord = true
+is_lower FromWord = true
+is_lower ResolveWord = true
+is_lower ClaimWord = true
+is_lower ProvedWord = true
+is_lower RefutedWord = true
+is_lower UnfinishedWord = true
+is_lower HoldsWord = true
+is_lower EndWord = true
 is_lower Lower = true
 is_lower _ = false
 

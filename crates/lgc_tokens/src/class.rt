@@ -29,6 +29,20 @@ pub enum Class {
     MixedWord,
     EquationWord,
     QuasiWord,
+    ReportWord,
+    LineWord,
+    ByWord,
+    AxiomWord,
+    PendingWord,
+    OnWord,
+    FromWord,
+    ResolveWord,
+    ClaimWord,
+    ProvedWord,
+    RefutedWord,
+    UnfinishedWord,
+    HoldsWord,
+    EndWord,
     /// A Lower that is no keyword.
     Lower,
     Upper,
@@ -104,6 +118,20 @@ pub(crate) fn is_lower(class: Class) -> bool
             | Class::MixedWord
             | Class::EquationWord
             | Class::QuasiWord
+            | Class::ReportWord
+            | Class::LineWord
+            | Class::ByWord
+            | Class::AxiomWord
+            | Class::PendingWord
+            | Class::OnWord
+            | Class::FromWord
+            | Class::ResolveWord
+            | Class::ClaimWord
+            | Class::ProvedWord
+            | Class::RefutedWord
+            | Class::UnfinishedWord
+            | Class::HoldsWord
+            | Class::EndWord
             | Class::Lower
     )
 }
@@ -150,6 +178,34 @@ fn class_of_word(text: &[u8]) -> Class
         Class::EquationWord
     } else if text == b"quasi".as_slice() {
         Class::QuasiWord
+    } else if text == b"report".as_slice() {
+        Class::ReportWord
+    } else if text == b"line".as_slice() {
+        Class::LineWord
+    } else if text == b"by".as_slice() {
+        Class::ByWord
+    } else if text == b"axiom".as_slice() {
+        Class::AxiomWord
+    } else if text == b"pending".as_slice() {
+        Class::PendingWord
+    } else if text == b"on".as_slice() {
+        Class::OnWord
+    } else if text == b"from".as_slice() {
+        Class::FromWord
+    } else if text == b"resolve".as_slice() {
+        Class::ResolveWord
+    } else if text == b"claim".as_slice() {
+        Class::ClaimWord
+    } else if text == b"proved".as_slice() {
+        Class::ProvedWord
+    } else if text == b"refuted".as_slice() {
+        Class::RefutedWord
+    } else if text == b"unfinished".as_slice() {
+        Class::UnfinishedWord
+    } else if text == b"holds".as_slice() {
+        Class::HoldsWord
+    } else if text == b"end".as_slice() {
+        Class::EndWord
     } else {
         Class::Lower
     }
