@@ -1,0 +1,17 @@
+//! Whether lines are steps.
+//!
+//! - [`step_fault`] tells whether a line is a step by the rules and the lines before it, or the first [`StepFault`]: the first part in which
+//!   it isn't one. It takes no memory.
+//!
+//! `specs/StepFaults.antt` says which parts a step of each kind has, and in which order they are asked. A step, as `lgc_sequents` defines it,
+//! is a line of which all parts hold.
+#![tactic(auto)]
+
+mod fault;
+mod near;
+mod premises;
+mod standing;
+mod step;
+
+pub use fault::StepFault;
+pub use step::step_fault;
