@@ -109,27 +109,33 @@ differs f g apart = by (same_formula f g) refl where
   by true is = absurd (apart ((same_formula-Decides f g).0 is))
   by false is = refl
 
--- one more pair
-pub unpack_more : (n : ℕ) (formulas : List Formula) (pairs : List (ℕ × List ℕ)) (i : ℕ) (pair : ℕ × List ℕ) (f : Formula) (items after : List SignedFormula) → IsNumbering formulas → IsPacked n pairs → AreKnown formulas pairs → i < length pairs → pair ≡ get_or pairs i pair
-    → slice_get formulas pair.0 ≡ Some f → items ≡ unpacked formulas (take i pairs) → after ≡ sequents.added n items f pair.1 → after ≡ unpacked formulas (take (i + 1) pairs)
-unpack_more n formulas pairs i pair f items after numbering packed known lt read at before made =
-    let f_is : formula_at formulas pair.0 ≡ f = formula_at-is formulas pair.0 f at in
-    let sign : IsSign n pair.1 = subst (λ (p : ℕ × List ℕ). IsSign n p.1) (sym read) (packed.signs i pair lt) in
-    let absent : occurs items f ≡ false = ap (λ xs. occurs xs f) before ∙ list_any_none (λ item. same_formula f item.formula) (unpacked formulas (take i pairs)) (All-map (λ item. same_formula f item.formula ≡ false) (item_of formulas) (take i pairs) (other f_is)) in
-    made ∙ sequent_laws.added-some n items f pair.1 sign.nonempty ∙ sequent_laws.joined-last n items f pair.1 absent
-    ∙ (λ j. before j ++ record { formula = sym f_is j; sign = pair.1 } ∷ [])
-    ∙ sym (ap (unpacked formulas) (take_more pairs i pair lt ∙ ap (λ p. take i pairs ++ p ∷ []) (sym read)) ∙ map-append (item_of formulas) (take i pairs) (pair ∷ []))
-  where
-    other : formula_at formulas pair.0 ≡ f → All (λ p. same_formula f (formula_at formulas p.0) ≡ false) (take i pairs)
-    other f_is = λ j d j_lt.
-        let j_before : j < i = let long = length-take i pairs in omega (arith, long, j_lt) in
-        let earlier : get_or (take i pairs) j d ≡ get_or pairs j d = get_or-take i pairs j d j_before in
-        let rising : (get_or pairs j d).0 < (get_or pairs i d).0 = packed.rising j i d j_before lt in
-        let here : (get_or pairs i d).0 ≡ pair.0 = ap (λ (p : ℕ × List ℕ). p.0) (get_or_default pairs i d pair lt ∙ sym read) in
-        let earlier_known : (get_or pairs j d).0 < length formulas = known j d (omega (arith, j_before, lt)) in
-        differs f (formula_at formulas (get_or (take i pairs) j d).0) (λ same.
-        let numbers : pair.0 ≡ (get_or pairs j d).0 = one_number formulas numbering.distinct pair.0 (get_or pairs j d).0 (slice_get_within formulas pair.0 f at) earlier_known (f_is ∙ same ∙ ap (λ (p : ℕ × List ℕ). formula_at formulas p.0) earlier) in
-        omega (arith, numbers, rising, here))
+module _ (n : ℕ) (formulas : List Formula) (pairs : List (ℕ × List ℕ)) (i : ℕ) (pair : ℕ × List ℕ) (f : Formula) (items : List SignedFormula) (numbering : IsNumbering formulas) (packed : IsPacked n pairs) (known : AreKnown formulas pairs) (lt : i < length pairs) (read : pair ≡ get_or pairs i pair)
+    (at : slice_get formulas pair.0 ≡ Some f) (before : items ≡ unpacked formulas (take i pairs)) where
+  f_is : formula_at formulas pair.0 ≡ f
+  f_is = formula_at-is formulas pair.0 f at
+
+  earlier_differ : All (λ p. same_formula f (formula_at formulas p.0) ≡ false) (take i pairs)
+  earlier_differ = λ j d j_lt.
+      let j_before : j < i = let long = length-take i pairs in omega (arith, long, j_lt) in
+      let earlier : get_or (take i pairs) j d ≡ get_or pairs j d = get_or-take i pairs j d j_before in
+      let rising : (get_or pairs j d).0 < (get_or pairs i d).0 = packed.rising j i d j_before lt in
+      let here : (get_or pairs i d).0 ≡ pair.0 = ap (λ (p : ℕ × List ℕ). p.0) (get_or_default pairs i d pair lt ∙ sym read) in
+      let earlier_known : (get_or pairs j d).0 < length formulas = known j d (omega (arith, j_before, lt)) in
+      differs f (formula_at formulas (get_or (take i pairs) j d).0) (λ same.
+      let numbers : pair.0 ≡ (get_or pairs j d).0 = one_number formulas numbering.distinct pair.0 (get_or pairs j d).0 (slice_get_within formulas pair.0 f at) earlier_known (f_is ∙ same ∙ ap (λ (p : ℕ × List ℕ). formula_at formulas p.0) earlier) in
+      omega (arith, numbers, rising, here))
+
+  -- the formula of the next pair is new
+  pub unpack_new : occurs items f ≡ false
+  unpack_new = ap (λ xs. occurs xs f) before ∙ list_any_none (λ item. same_formula f item.formula) (unpacked formulas (take i pairs)) (All-map (λ item. same_formula f item.formula ≡ false) (item_of formulas) (take i pairs) earlier_differ)
+
+  -- one more pair
+  pub unpack_more : (after : List SignedFormula) → after ≡ sequents.added n items f pair.1 → after ≡ unpacked formulas (take (i + 1) pairs)
+  unpack_more after made =
+      let sign : IsSign n pair.1 = subst (λ (p : ℕ × List ℕ). IsSign n p.1) (sym read) (packed.signs i pair lt) in
+      made ∙ sequent_laws.added-some n items f pair.1 sign.nonempty ∙ sequent_laws.joined-last n items f pair.1 unpack_new
+      ∙ (λ j. before j ++ record { formula = sym f_is j; sign = pair.1 } ∷ [])
+      ∙ sym (ap (unpacked formulas) (take_more pairs i pair lt ∙ ap (λ p. take i pairs ++ p ∷ []) (sym read)) ∙ map-append (item_of formulas) (take i pairs) (pair ∷ []))
 
 -- ---- truth
 

@@ -38,6 +38,14 @@ fn sign_at<const N: usize>(pairs: &[(u64, ValueSet<N>)], number: u64, at: usize)
     }
 }
 
+/// The sign of the formula with a number, empty where it isn't there.
+pub fn sign_of<const N: usize>(packed: &Packed<N>, number: u64) -> ValueSet<N>
+    ensures { (w : ℕ) → w < N → has result w ≡ marks packed.now number w }
+{
+    let pairs = packed.pairs();
+    sign_at(pairs, number, place_from(pairs, number, 0))
+}
+
 /// A place of a formula that carries all values, and None where there is none.
 pub fn full_at<const N: usize>(packed: &Packed<N>) -> Option<usize>
     ensures { MatchOption result (is_full N packed.now ≡ false) (IsFullAt N packed.now) }

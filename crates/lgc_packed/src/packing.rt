@@ -53,7 +53,7 @@ pub fn unpack<const N: usize>(
     let mut sequent = Sequent::new(alloc);
     for pair in pairs {
         let formula = formulas.formula(pair.0)?;
-        sequent.add(formula, pair.1)?;
+        sequent.add_new(formula, pair.1)?;
     }
     Ok(sequent)
 }

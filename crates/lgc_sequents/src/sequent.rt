@@ -1,5 +1,5 @@
 // Sequents.
-ghost use Rattle.std.specs.Prelude.{◌≡◌, [], ◌||◌, ℕ, true, IsTrue, IsFalse, IfOk, OnOk, OnErr};
+ghost use Rattle.std.specs.Prelude.{◌≡◌, [], ◌||◌, ℕ, true, false, IsTrue, IsFalse, IfOk, OnOk, OnErr};
 ghost use Rattle.lgc_values.specs.Values.{IsSize, has};
 ghost use Rattle.lgc_syntax.specs.declared.formula.Formula.{Formula};
 ghost use Rattle.lgc_syntax.specs.Equality.{same_formula};
@@ -80,6 +80,21 @@ impl<const N: usize> Sequent<N> {
             return Ok(());
         }
         self.items.push(Signed { formula, sign })?;
+        Ok(())
+    }
+
+    /// The same for a formula that doesn't occur, which is compared with no other.
+    pub fn add_new(&mut self, formula: Formula, sign: ValueSet<N>) -> Result<(), AllocError>
+        requires new { occurs self.old formula ≡ false }
+        ensures ok { OnOk result (self.new ≡ added N self.old formula sign.entry) }
+        ensures err { OnErr result (self.new ≡ self.old) }
+    {
+        let _mask = sign.mask();
+        if sign.is_empty() {
+            return Ok(());
+        }
+        let item = Signed { formula, sign };
+        self.items.push(item)?;
         Ok(())
     }
 
