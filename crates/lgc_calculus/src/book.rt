@@ -1,8 +1,8 @@
 // Rules of operators, each made once and found by its operator and sign.
-ghost use Rattle.std.specs.Prelude.{◌≡◌, ◌≢◌, ◌+◌, ◌*◌, ◌^◌, ◌<◌, ◌≤◌, ℕ, [], length, take, Ok, IfOk, OnErr};
+ghost use Rattle.std.specs.Prelude.{◌≡◌, ◌≢◌, ◌+◌, ◌*◌, ◌^◌, ◌<◌, ◌≤◌, ℕ, [], length, take, Ok, IfOk, OnErr, MatchOption};
 ghost use Rattle.lgc_values.specs.Logic.{Logic, IsLogic};
 ghost use Rattle.lgc_values.specs.declared.TheConstants.{MOST_SYMBOLS};
-ghost use Rattle.lgc_calculus.specs.RuleBook.{IsRightBook, IsNumberFor};
+ghost use Rattle.lgc_calculus.specs.RuleBook.{IsRightBook, IsNumberFor, IsRuleFor};
 
 use indexmap::IndexSet;
 use lgc_clauses::OpRule;
@@ -55,6 +55,17 @@ impl<const N: usize> RuleBook<N> {
         ensures few { (logic : Logic) → IsLogic logic → IsRightBook logic self.now → length self.now ≤ MOST_SYMBOLS * 2 ^ N }
     {
         self.rules.items()
+    }
+
+    /// The rule for operator `op`, counted from 0, at a sign, and None where it wasn't made yet.
+    pub fn made_rule(&self, op: u16, sign: ValueSet<N>) -> Option<&OpRule<N>>
+        ensures { MatchOption result ((number : ℕ) → IsNumberFor self.now op sign.entry number → ⊥) (λ rule. IsRuleFor self.now op sign.entry rule.now) }
+    {
+        let mask = sign.mask();
+        if let Some(place) = self.keys.get_index_of(&RuleKey { op, mask }) {
+            return Some(self.rules.get(place));
+        }
+        None
     }
 
     /// The number of the rule for operator `op`, counted from 0, at a sign. The rule is derived and appended where it isn't there.

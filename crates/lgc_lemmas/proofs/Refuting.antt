@@ -171,5 +171,10 @@ compound_there nodes goal pairs at d same l compound =
       compound = parts.1.1;
     }
 
+pub compound_back : (nodes : List Node) (goal pairs : List (ℕ × List ℕ)) (at : ℕ) (d : ℕ × List ℕ) → pairs ≡ goal → IsCompoundAt nodes goal at → is_compound_node (slice_get nodes (get_or pairs at d).0) ≡ true
+compound_back nodes goal pairs at d same is =
+    let here : get_or pairs at d ≡ (is.number, is.sign) = get_or_from_slice_get pairs at (is.number, is.sign) d (ap (λ (xs : List (ℕ × List ℕ)). slice_get xs at) same ∙ is.is) in
+    ap (λ (pair : ℕ × List ℕ). is_compound_node (slice_get nodes pair.0)) here ∙ ap is_compound_node is.compound
+
 pub node_there : (nodes : List Node) (k : ℕ) (d : Node) → k < length nodes → d ≡ get_or nodes k d → slice_get nodes k ≡ Some d
 node_there nodes k d l is = slice_get_read nodes (length nodes) k d refl l is

@@ -1,5 +1,5 @@
 // Goals without compounds: values under which they are false.
-ghost use Rattle.std.specs.Prelude.{◌≡◌, ◌<◌, ℕ, List, All, length, map, false, slice_get, slice_index, MatchOption, IfOk};
+ghost use Rattle.std.specs.Prelude.{◌≡◌, ◌<◌, ℕ, List, All, length, map, false, slice_get, slice_index, IsTrue, ◌↔◌, MatchOption, IfOk};
 ghost use Rattle.lgc_values.specs.Logic.{operator_at};
 ghost use Rattle.lgc_syntax.specs.Values.{operation};
 ghost use Rattle.lgc_packed.specs.Packed.{IsPacked, marks, is_full};
@@ -20,6 +20,16 @@ fn is_compound(nodes: &[Node], number: u64) -> bool
         Node::Atom(_) => false,
         Node::Compound { op: _, args: _ } => true,
     }
+}
+
+/// Whether the formula at a place, counted from 0, is a compound.
+pub fn is_compound_at<const N: usize>(nodes: &[Node], goal: &Packed<N>, at: usize) -> bool
+    requires numbers { HasNumbersBelow (length nodes.now) goal.now }
+    requires place { at < length goal.now }
+    ensures { IsTrue result ↔ IsCompoundAt nodes.now goal.now at }
+{
+    let pairs = goal.pairs();
+    is_compound(nodes, pairs[at].0)
 }
 
 /// The first place of a compound, and None where there is none.

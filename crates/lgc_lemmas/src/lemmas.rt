@@ -12,12 +12,20 @@ use std::marker::Model;
 
 /// Lemmas in the order in which they were proved, seen as their list.
 ///
-/// A goal that includes a lemma has the lemma's largest number. So the places of the lemmas are also kept by these numbers, and only the
-/// lemmas of the goal's numbers are compared with it. Nothing rests on that: what is found there is compared.
+/// A goal that includes a lemma has the lemma's largest number, and each bit of its digest. So the places of the lemmas are also kept by
+/// these numbers, with the digests, and only lemmas of the goal's numbers whose bits the goal has are compared with it. Nothing rests on
+/// that: what is found there is compared.
 #[derive(Drop)]
 pub struct Lemmas<const N: usize> {
     items: List<Lemma<N>>,
-    by_largest: Vec<Vec<u64>>,
+    by_largest: Vec<Vec<Place>>,
+}
+
+// The place of a lemma, and its digest.
+#[derive(Clone, Copy, Debug)]
+struct Place {
+    place: u64,
+    digest: u64,
 }
 
 impl<const N: usize> Model for Lemmas<N> {
@@ -59,27 +67,28 @@ impl<const N: usize> Lemmas<N> {
     pub fn known(&self, goal: &Packed<N>) -> Option<u64>
         ensures { IfSome result (IsProvedBy N self.now goal.now) }
     {
+        let digest = digest_of(goal);
         for pair in goal.pairs() {
-            if let Some(place) = self.known_by(pair.0, goal) {
+            if let Some(place) = self.known_by(pair.0, goal, digest) {
                 return Some(place);
             }
         }
         None
     }
 
-    // Some lemma with this largest number that the goal includes.
-    fn known_by(&self, number: u64, goal: &Packed<N>) -> Option<u64>
+    // Some lemma with this largest number that the goal, which has this digest, includes.
+    fn known_by(&self, number: u64, goal: &Packed<N>, digest: u64) -> Option<u64>
         ensures { IfSome result (IsProvedBy N self.now goal.now) }
     {
         let lemmas = self.items.items();
         if number >= self.by_largest.len() as u64 {
             return None;
         }
-        for place in &self.by_largest[number as usize] {
-            if *place < lemmas.len() as u64 {
-                let lemma = &lemmas[*place as usize];
+        for entry in &self.by_largest[number as usize] {
+            if entry.digest & digest == entry.digest && entry.place < lemmas.len() as u64 {
+                let lemma = &lemmas[entry.place as usize];
                 if included_in(&lemma.sequent, goal) {
-                    return Some(*place);
+                    return Some(entry.place);
                 }
             }
         }
@@ -93,14 +102,18 @@ impl<const N: usize> Lemmas<N> {
         ensures err { OnErr result (self.new ≡ self.old) }
     {
         let place = self.items.items().len() as u64;
-        put_at(&mut self.by_largest, largest_number(&lemma.sequent), place)?;
+        let entry = Place {
+            place,
+            digest: digest_of(&lemma.sequent),
+        };
+        put_at(&mut self.by_largest, largest_number(&lemma.sequent), entry)?;
         self.items.push(lemma)?;
         Ok(place)
     }
 }
 
 // Puts a place to a largest number.
-fn put_at(places: &mut Vec<Vec<u64>>, number: usize, place: u64) -> Result<(), AllocError> {
+fn put_at(places: &mut Vec<Vec<Place>>, number: usize, entry: Place) -> Result<(), AllocError> {
     for _ in places.len()..number {
         let alloc = *places.allocator();
         places.push(Vec::new(alloc))?;
@@ -110,9 +123,20 @@ fn put_at(places: &mut Vec<Vec<u64>>, number: usize, place: u64) -> Result<(), A
         places.push(Vec::new(alloc))?;
     }
     if number < places.len() {
-        places[number].push(place)?;
+        places[number].push(entry)?;
     }
     Ok(())
+}
+
+// A bit for each value that stands on a formula; several may share one. A sequent that includes another has all of its bits.
+fn digest_of<const N: usize>(packed: &Packed<N>) -> u64 {
+    let mut digest = 0;
+    for pair in packed.pairs() {
+        let (number, sign) = *pair;
+        let shift = number.wrapping_mul(N as u64) % 49;
+        digest |= u64::from(sign.mask()) << shift;
+    }
+    digest
 }
 
 // The largest number of a sequent, and 0 where it is empty.

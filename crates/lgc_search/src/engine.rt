@@ -11,9 +11,10 @@ ghost use Rattle.lgc_search.specs.Search.{IsAnswer, AreFound, clauses_of};
 
 use crate::Answer;
 use crate::answer::Premises;
+use crate::choosing::principal_at;
 use crate::opened::{Opened, clause_count, conclude, keep, open, premise_at};
 use lgc_calculus::RuleBook;
-use lgc_lemmas::{Lemma, Lemmas, axiom_at, compound_at, refute};
+use lgc_lemmas::{Lemma, Lemmas, axiom_at, refute};
 use lgc_numbering::Node;
 use lgc_packed::{Packed, full_at, included_in};
 use lgc_values::{List, Matrix};
@@ -51,7 +52,7 @@ pub fn prove<const N: usize>(
         let place = append_step(m, nodes, book, lemmas, goal, axiom)?;
         return Ok(Answer::Proved(place));
     }
-    match compound_at(nodes, goal) {
+    match principal_at(nodes, &*book, goal) {
         None => Ok(Answer::Refuted(refute(alloc, m, nodes, goal)?)),
         Some(at) => {
             let opened = open(alloc, m, nodes, goal, at)?;

@@ -4,6 +4,7 @@
 #![tactic(auto)]
 
 mod answer;
+mod choosing;
 mod engine;
 mod opened;
 

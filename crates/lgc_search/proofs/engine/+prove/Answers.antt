@@ -20,35 +20,35 @@ prove-append_step-requires-in-All g t c =
     let nodes = c.args.nodes.now in
     let goal = c.args.goal.now in
     let size = c.operators-operators.ensures.size in
-    let o = c.in_ok-opened-in-Some-compound_at.opened in
-    let is = c.in_ok-opened-in-Some-compound_at.ensures.is in
-    let number = c.in_ok-number-in-Some-compound_at.number in
-    let found = c.in_ok-number-in-Some-compound_at.ensures.rule in
+    let o = c.in_ok-opened-in-Some-principal_at.opened in
+    let is = c.in_ok-opened-in-Some-principal_at.ensures.is in
+    let number = c.in_ok-number-in-Some-principal_at.number in
+    let found = c.in_ok-number-in-Some-principal_at.ensures.rule in
     let Q : Premises g.row.N → Type 0 = AreFound logic nodes c.prove_premises.new.lemmas (clauses_of c.choose.new.book number) o.arguments o.rest in
-    let proved = subst Q c.in-All.is c.in_ok-cited-in-Some-compound_at.ensures.found in
+    let proved = subst Q c.in-All.is c.in_ok-cited-in-Some-principal_at.ensures.found in
     let lemma = c.in_ok-lemma-in-All.lemma in
-    let reason = step_reason logic nodes c.requires.nodes g.row.N size goal o.rest o.op o.principal o.sign o.arguments c.pairs-pairs.ensures.packed is c.choose.new.book number found c.prove_premises.new.book c.in_ok-cited-in-Some-compound_at.ensures.rules c.prove_premises.new.lemmas c.in-All.cited c.in-All.kept proved lemma c.in_ok-lemma-in-All.ensures.sequent c.in_ok-lemma-in-All.ensures.reason in
-    let included = step_included logic nodes c.requires.nodes g.row.N size goal o.rest o.op o.principal o.sign o.arguments c.pairs-pairs.ensures.packed is c.choose.new.book number found c.prove_premises.new.book c.in_ok-cited-in-Some-compound_at.ensures.rules c.prove_premises.new.lemmas c.in-All.cited c.in-All.kept proved lemma c.in_ok-lemma-in-All.ensures.sequent c.in_ok-lemma-in-All.ensures.reason in
-    (omega arith, (omega arith, (omega arith, (omega arith, (omega arith, (c.requires.numbers, (c.in_ok-cited-in-Some-compound_at.ensures.steps, (reason, included))))))))
+    let reason = step_reason logic nodes c.requires.nodes g.row.N size goal o.rest o.op o.principal o.sign o.arguments c.pairs-pairs.ensures.packed is c.choose.new.book number found c.prove_premises.new.book c.in_ok-cited-in-Some-principal_at.ensures.rules c.prove_premises.new.lemmas c.in-All.cited c.in-All.kept proved lemma c.in_ok-lemma-in-All.ensures.sequent c.in_ok-lemma-in-All.ensures.reason in
+    let included = step_included logic nodes c.requires.nodes g.row.N size goal o.rest o.op o.principal o.sign o.arguments c.pairs-pairs.ensures.packed is c.choose.new.book number found c.prove_premises.new.book c.in_ok-cited-in-Some-principal_at.ensures.rules c.prove_premises.new.lemmas c.in-All.cited c.in-All.kept proved lemma c.in_ok-lemma-in-All.ensures.sequent c.in_ok-lemma-in-All.ensures.reason in
+    (omega arith, (omega arith, (omega arith, (omega arith, (omega arith, (c.requires.numbers, (c.in_ok-cited-in-Some-principal_at.ensures.steps, (reason, included))))))))
 
 pub prove-returns-in-Enough-clause-answer : goal.prove-returns-in-Enough-clause-answer
 prove-returns-in-Enough-clause-answer g t c =
     let logic = c.args.m.now in
     let nodes = c.args.nodes.now in
-    let o = c.in_ok-opened-in-Some-compound_at.opened in
-    let number = c.in_ok-number-in-Some-compound_at.number in
+    let o = c.in_ok-opened-in-Some-principal_at.opened in
+    let number = c.in_ok-number-in-Some-principal_at.number in
     let Q : Premises g.row.N → Type 0 = AreFound logic nodes c.prove_premises.new.lemmas (clauses_of c.choose.new.book number) o.arguments o.rest in
-    enough logic nodes c.requires.nodes g.row.N c.operators-operators.ensures.size c.args.goal.now o.rest o.op o.principal o.sign o.arguments c.pairs-pairs.ensures.packed c.in_ok-opened-in-Some-compound_at.ensures.is c.prove_premises.new.lemmas c.in-Enough.place (subst Q c.in-Enough.is c.in_ok-cited-in-Some-compound_at.ensures.found)
+    enough logic nodes c.requires.nodes g.row.N c.operators-operators.ensures.size c.args.goal.now o.rest o.op o.principal o.sign o.arguments c.pairs-pairs.ensures.packed c.in_ok-opened-in-Some-principal_at.ensures.is c.prove_premises.new.lemmas c.in-Enough.place (subst Q c.in-Enough.is c.in_ok-cited-in-Some-principal_at.ensures.found)
 
 pub prove-returns-clause-answer : goal.prove-returns-clause-answer
 prove-returns-clause-answer g t c =
     let logic = c.args.m.now in
     let nodes = c.args.nodes.now in
-    let o = c.in_ok-opened-in-Some-compound_at.opened in
-    let number = c.in_ok-number-in-Some-compound_at.number in
+    let o = c.in_ok-opened-in-Some-principal_at.opened in
+    let number = c.in_ok-number-in-Some-principal_at.number in
     let Q : Premises g.row.N → Type 0 = AreFound logic nodes c.prove_premises.new.lemmas (clauses_of c.choose.new.book number) o.arguments o.rest in
-    refuted logic nodes c.requires.nodes g.row.N c.operators-operators.ensures.size c.args.goal.now o.rest o.op o.principal o.sign o.arguments c.pairs-pairs.ensures.packed c.in_ok-opened-in-Some-compound_at.ensures.is c.choose.new.book number c.in_ok-number-in-Some-compound_at.ensures.rule c.in-Refuted.values
-    c.operators-operators.ensures.logic c.in_ok-number-in-Some-compound_at.ensures.right (subst Q c.in-Refuted.is c.in_ok-cited-in-Some-compound_at.ensures.found)
+    refuted logic nodes c.requires.nodes g.row.N c.operators-operators.ensures.size c.args.goal.now o.rest o.op o.principal o.sign o.arguments c.pairs-pairs.ensures.packed c.in_ok-opened-in-Some-principal_at.ensures.is c.choose.new.book number c.in_ok-number-in-Some-principal_at.ensures.rule c.in-Refuted.values
+    c.operators-operators.ensures.logic c.in_ok-number-in-Some-principal_at.ensures.right (subst Q c.in-Refuted.is c.in_ok-cited-in-Some-principal_at.ensures.found)
 
 pub prove_premises-returns-in-Refuted-clause-found : goal.prove_premises-returns-in-Refuted-clause-found
 prove_premises-returns-in-Refuted-clause-found g t c =
