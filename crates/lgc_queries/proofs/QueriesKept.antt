@@ -61,12 +61,12 @@ mask_below n test =
 -- ---- repetitions and bars
 
 -- what each step keeps holds of the last tree, where the tokens of each step have a property of all
-growing_keeps : {T A : Type 0} (K : List T → Type 0) (front : (v w : List T) → K (v ++ w) → K v) (behind : (v w : List T) → K (v ++ w) → K w) (L : A → Grammar T A) (Q : A → Type 0) → ((a b : A) (v : List T) → K v → Q a → L a (Ok b) v → Q b) → (a c : A) (ts : List T) → K ts → Q a → Growing L a (Ok c) ts → Q c
+pub growing_keeps : {T A : Type 0} (K : List T → Type 0) (front : (v w : List T) → K (v ++ w) → K v) (behind : (v w : List T) → K (v ++ w) → K w) (L : A → Grammar T A) (Q : A → Type 0) → ((a b : A) (v : List T) → K v → Q a → L a (Ok b) v → Q b) → (a c : A) (ts : List T) → K ts → Q a → Growing L a (Ok c) ts → Q c
 growing_keeps K front behind L Q step a c ts known h (ended _) = h
 growing_keeps K front behind L Q step a c ts known h (grown _ b _ v w f g) = growing_keeps K front behind L Q step b c w (behind v w known) (step a b v (front v w known) h f) g
 
 -- behind a phrase that is bad there is none
-unbarred : {T A : Type 0} (bad : Bool) (first : T → Bool) (n : ℕ) (L : Grammar T A) (a : A) (ts : List T) → Barred bad first n L (Ok a) ts → (bad ≡ false) × L (Ok a) ts
+pub unbarred : {T A : Type 0} (bad : Bool) (first : T → Bool) (n : ℕ) (L : Grammar T A) (a : A) (ts : List T) → Barred bad first n L (Ok a) ts → (bad ≡ false) × L (Ok a) ts
 unbarred true first n L a ts h = absurd h
 unbarred false first n L a ts h = (refl, h)
 

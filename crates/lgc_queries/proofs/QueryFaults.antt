@@ -21,7 +21,7 @@ use Rattle.lgc_queries.specs.QueryFile.{IsFileFault}
 use Rattle.lgc_queries.specs.QueryPlace.{IsPlaceFault}
 
 -- a property that follows
-wider : {T A : Type 0} {Q R : ℕ → Type 0} {L : Grammar T A} → ((n : ℕ) → Q n → R n) → Only Q L → Only R L
+pub wider : {T A : Type 0} {Q R : ℕ → Type 0} {L : Grammar T A} → ((n : ℕ) → Q n → R n) → Only Q L → Only R L
 wider follows g = record { only = λ n ts h. follows n (g.only n ts h) }
 
 -- ---- of a property of the numbers of formulas

@@ -26,7 +26,7 @@ fn is_large_power(n: u32, exponent: usize) -> bool
 }
 
 /// Whether a query has more goals than queries that are read may have.
-pub(crate) fn has_too_many_goals<const N: usize>(m: &Matrix<N>, query: &Query) -> bool
+pub fn has_too_many_goals<const N: usize>(m: &Matrix<N>, query: &Query) -> bool
     ensures { result ≡ has_too_many_goals m.now.size query.now }
 {
     let _names = m.names();

@@ -2,7 +2,8 @@
 //!
 //! - [`read_queries`] reads a query file: the queries in their order, or the first fault.
 //! - [`query_at`] and [`query_with`] read a query among the tokens of a larger text, and tell the token behind it.
-//! - [`one_query`] is for readers of texts that contain queries: what it gives is that of `specs/QueryReading.antt`.
+//! - [`one_query`] is for readers of texts that contain queries: what it gives is that of `specs/QueryReading.antt`. [`has_too_many_goals`] tells
+//!   of a query whether its goals are too many.
 //! - A [`QueryRead`] is a query that was read, with what the text around it has to know. [`EquationRead`] and [`Equations`] are the same of
 //!   equations.
 //! - [`write_query`] puts the text of a query behind other bytes.
@@ -36,6 +37,7 @@ mod set;
 mod text;
 
 pub use file::read_queries;
+pub use goals::has_too_many_goals;
 pub use place::{query_at, query_with};
 pub use query::one_query;
 pub use read::{EquationRead, Equations, QueryRead};

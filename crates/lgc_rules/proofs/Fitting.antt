@@ -60,7 +60,7 @@ number_within least most fault test k ts (t, is, (passes, none, one)) =
     rw is (ltb-false (number t) least low, ltb-false most (number t) high)
 
 -- no token writes a number that is too large
-number_small : (t : Spelled) → is_number t ≡ true → number t ≤ MOST_NUMBER
+pub number_small : (t : Spelled) → is_number t ≡ true → number t ≤ MOST_NUMBER
 unfolding number_in
 number_small t h = by (writes_up_to MOST_NUMBER t.text) refl
   where
@@ -94,7 +94,7 @@ value_found : (logic : Logic) (t : Spelled) (found : Option ℕ) → value_named
 value_found logic t None e h = absurd cc
 value_found logic t (Some i) e h = (position-Some (λ (name : List ℕ). bytes_eq name t.text) logic.names i [] e).0
 
-value_below : (logic : Logic) (v : ℕ) (ts : List Spelled) → Value logic (Ok v) ts → v < length logic.names
+pub value_below : (logic : Logic) (v : ℕ) (ts : List Spelled) → Value logic (Ok v) ts → v < length logic.names
 value_below logic v ts (t, is, (passes, known, one)) = rw is (value_found logic t (value_named logic t.text) refl (unbroken UNKNOWN_VALUE (names_no_value logic t) known))
 
 module _ (n : ℕ) (logic : Logic) (named : length logic.names ≡ n) where
@@ -113,7 +113,7 @@ module _ (n : ℕ) (logic : Logic) (named : length logic.names ≡ n) where
       let alone : has (value ∷ []) value ≡ true = rw (eq-eqb value value refl) refl in
       rw same (growing_keeps (NextValue n logic) HasMember (length v2) (λ a b u few h k. member_stays a b u h k) (value ∷ []) grown1 v2 (omega arith) (value, below, alone) g)
 
-  set_some : (set : List ℕ) (ts : List Spelled) → Set n logic (Ok set) ts → set ≢ []
+  pub set_some : (set : List ℕ) (ts : List Spelled) → Set n logic (Ok set) ts → set ≢ []
   set_some set ts h = λ e. none (subst HasMember e (set_has set ts h))
     where
       none : HasMember [] → ⊥

@@ -35,7 +35,7 @@ number_reads least most fault test = map_reads number (allowed test (λ t. fault
 
 -- ---- sets
 
-value_reads : (logic : Logic) → Reads (value_at logic) (Value logic) (PlainOne is_value) (Must is_value) never
+pub value_reads : (logic : Logic) → Reads (value_at logic) (Value logic) (PlainOne is_value) (Must is_value) never
 unfolding value_at
 value_reads logic = map_reads (value_of logic) (allowed terminal.Value (λ t. fault_if (names_no_value logic t) UNKNOWN_VALUE))
 

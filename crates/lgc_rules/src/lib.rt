@@ -3,6 +3,8 @@
 //! - [`read_rules`] reads a rule file: the rules in their order, or the first fault.
 //! - [`rule_at`] reads one rule among the tokens of a larger text, whatever its number is, and tells the token behind it.
 //! - A [`Numbered`] is a rule with the number that is written before it.
+//! - [`one_rule`], [`read_set`] and [`read_value`] are for readers of texts that contain rules or signs: what they give is that of
+//!   `specs/RuleReading.antt`.
 //!
 //! `specs/RuleGrammar.antt` is the grammar of rule files. It says which rules that a logic asks for a token can break, and
 //! which trees the texts have that break none; `specs/PlainGrammar.antt` has the same lines without those rules. What is in the
@@ -30,3 +32,5 @@ mod set;
 
 pub use file::{LONGEST_FILE, read_rules, rule_at};
 pub use lgc_clauses::Numbered;
+pub use rule::one_rule;
+pub use set::{read_set, read_value};

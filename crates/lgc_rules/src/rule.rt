@@ -175,8 +175,11 @@ fn of_symbol<'a, const N: usize>(
 }
 
 /// A rule, whose number has to be one from `least` to `most`.
+///
+/// A stop is before the first token at which there is one of the faults 4 to 6 or 10 to 12, by the constants of `InputFault`; or it is for
+/// want of memory.
 #[tactic(auto, unfolding(crate::specs::RuleReading::rule_at))]
-pub(crate) fn one_rule<'a, const N: usize>(
+pub fn one_rule<'a, const N: usize>(
     alloc: Global,
     m: &Matrix<N>,
     bytes: &[u8],

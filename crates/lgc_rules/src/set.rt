@@ -13,9 +13,13 @@ use lgc_syntax::UNKNOWN_VALUE;
 use lgc_tokens::{Class, Reading, Stop, Terminal, is_a, next_is, one};
 use lgc_values::{Matrix, ValueSet};
 
-// The truth value that the next token names.
+/// The truth value that the next token names. A stop is before a token that isn't a name, or that names no truth value, by `UNKNOWN_VALUE`.
 #[tactic(auto, unfolding(crate::specs::RuleReading::value_at))]
-fn value<'a, const N: usize>(m: &Matrix<N>, bytes: &[u8], tokens: &'a [Token]) -> Reading<'a, u8>
+pub fn read_value<'a, const N: usize>(
+    m: &Matrix<N>,
+    bytes: &[u8],
+    tokens: &'a [Token],
+) -> Reading<'a, u8>
     requires { AllIn bytes.now tokens.now }
     ensures gives { Gives bytes.now (λ x. (x.0, spelled_all bytes.now x.1.now)) result (value_at m.now (spelled_all bytes.now tokens.now)) }
     ensures below { IfOk result (λ x. x.0 < N) }
@@ -45,7 +49,7 @@ fn next_value<'a, const N: usize>(
     ensures rest { IfOk result (λ x. IsShorter bytes.now tokens.now x.now) }
 {
     let (_, rest) = one(bytes, Terminal::Only(Class::Comma), tokens)?;
-    let (value, rest) = value(m, bytes, rest)?;
+    let (value, rest) = read_value(m, bytes, rest)?;
     *set = set.with(value);
     Ok(rest)
 }
@@ -68,9 +72,10 @@ fn more_values<'a, const N: usize>(
     Ok(rest)
 }
 
-/// A set of truth values in braces, which may stand in any order and repeat.
+/// A set of truth values in braces, which may stand in any order and repeat. There is one at least, and a name that is no truth value breaks
+/// the rule `UNKNOWN_VALUE`.
 #[tactic(auto, unfolding(crate::specs::RuleReading::set_at))]
-pub(crate) fn read_set<'a, const N: usize>(
+pub fn read_set<'a, const N: usize>(
     m: &Matrix<N>,
     bytes: &[u8],
     tokens: &'a [Token],
@@ -80,7 +85,7 @@ pub(crate) fn read_set<'a, const N: usize>(
     ensures rest { IfOk result (λ x. IsShorter bytes.now tokens.now x.1.now) }
 {
     let (_, rest) = one(bytes, Terminal::Only(Class::OpenBrace), tokens)?;
-    let (value, rest) = value(m, bytes, rest)?;
+    let (value, rest) = read_value(m, bytes, rest)?;
     let mut set = ValueSet::single(value);
     let rest = more_values(m, bytes, &mut set, rest)?;
     let (_, rest) = one(bytes, Terminal::Only(Class::CloseBrace), rest)?;
