@@ -2,6 +2,7 @@
 //!
 //! - [`step_fault`] tells whether a line is a step by the rules and the lines before it, or the first [`StepFault`]: the first part in which
 //!   it isn't one. It takes no memory.
+//! - [`is_position`] tells whether a line stands at a position.
 //!
 //! `specs/StepFaults.antt` says which parts a step of each kind has, and in which order they are asked. A step, as `lgc_sequents` defines it,
 //! is a line of which all parts hold.
@@ -14,4 +15,5 @@ mod standing;
 mod step;
 
 pub use fault::StepFault;
+pub use premises::is_position;
 pub use step::step_fault;

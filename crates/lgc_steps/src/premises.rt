@@ -18,8 +18,8 @@ use lgc_sequents::{Cited, Line, Sequent, Signed};
 use lgc_syntax::{Formula, Term, has_free, same_term};
 use lgc_values::Name;
 
-// Whether a line stands at a position, counted from 1.
-pub(crate) fn is_position<const N: usize>(lines: &[Line<N>], position: u64) -> bool
+/// Whether a line stands at a position, counted from 1.
+pub fn is_position<const N: usize>(lines: &[Line<N>], position: u64) -> bool
     ensures { result ≡ is_position lines.now position }
 {
     position > 0 && position <= lines.len() as u64

@@ -91,7 +91,9 @@ fn put_quantifier_row<const N: usize>(
     put_set(m.names(), m.set_of_row(row), into)
 }
 
-fn put_row<const N: usize>(
+/// Puts a row of a rule's table: the arguments of an operator's row in round brackets, or the set in a quantifier's row. The row is given by
+/// its index.
+pub fn put_row<const N: usize>(
     m: &Matrix<N>,
     rule: &Rule<N>,
     row: u32,
