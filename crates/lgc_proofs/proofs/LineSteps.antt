@@ -5,7 +5,7 @@ use Rattle.std.specs.List.{AllZip, list_all, zip}
 use Rattle.std.proofs.lemmas.Bool.{and_parts, and_from, or_cases, or_left, or_right, eqb-true, eq-eqb, true≢false}
 use Rattle.std.proofs.lemmas.List.{append-nil}
 use Rattle.std.proofs.lemmas.List.Elements.{All-cons, All-head, All-tail, All-nil, All-push, All-weaker}
-use Rattle.std.proofs.lemmas.List.Sorted.{All-permutation, IsPermutation-sym}
+use Rattle.std.proofs.lemmas.List.Sorted.{All-permutation, IsPermutation-sym, list_any-IsPermutation}
 use Rattle.std.proofs.lemmas.List.Sums.{AllPass-from_list_all, list_all-from_AllPass}
 use Rattle.std.proofs.lemmas.Option.{slice_get_within}
 use Rattle.lgc_values.specs.Values.{has, values_where}
@@ -14,7 +14,7 @@ use Rattle.lgc_clauses.specs.Rules.{OperatorRule, of_operator}
 use Rattle.lgc_syntax.specs.declared.formula.Formula.{Formula, Op}
 use Rattle.lgc_syntax.specs.Equality.{same_formula}
 use Rattle.lgc_sequents.specs.Signed.{SignedFormula}
-use Rattle.lgc_sequents.specs.Sequents.{IsSign, sign_in, is_included, is_axiom, has_all}
+use Rattle.lgc_sequents.specs.Sequents.{IsSign, IsSequent, sign_in, is_included, is_axiom, has_all}
 use Rattle.lgc_sequents.specs.Lines.{PlainLine, at_position, IsPosition, sequent_at}
 use Rattle.lgc_sequents.specs.Steps.{with_signs, carries, are_allowed, IsRuleStep, without_terms, premise_at, IsReasonFor}
 use Rattle.lgc_sequents.specs.Steps.{IsStep as IsLineStep}
@@ -31,7 +31,7 @@ use Rattle.lgc_packed.proofs.Rising.{IsRising, rising_from}
 use Rattle.lgc_packed.proofs.Marks.{nothing_below}
 use Rattle.lgc_packed.proofs.Truth.{has-all}
 use Rattle.lgc_packed.proofs.InclusionLaws.{all_pass, member_below}
-use Rattle.lgc_packed.proofs.SequentLaws.{same_number}
+use Rattle.lgc_packed.proofs.SequentLaws.{same_number, included_stands}
 use Rattle.lgc_lemmas.specs.declared.lemma.Reason.{Reason}
 use Rattle.lgc_lemmas.specs.declared.lemma.Reason.TheVariants as lemma
 use Rattle.lgc_lemmas.specs.Plain.{PlainLemma}
@@ -91,7 +91,7 @@ axiom_of_sign n (x ∷ xs) f some all = by (same_formula f x.formula) all (axiom
   by false there later = or_right (has_all n x.sign) (is_axiom n xs) (later there)
 
 -- a sequent that includes an axiom is one
-axiom_grown : (n : ℕ) (items others : List SignedFormula) → 0 < n → is_included items others ≡ true → is_axiom n items ≡ true → is_axiom n others ≡ true
+pub axiom_grown : (n : ℕ) (items others : List SignedFormula) → 0 < n → is_included items others ≡ true → is_axiom n items ≡ true → is_axiom n others ≡ true
 axiom_grown n [] others some included full = absurd (true≢false (sym full))
 axiom_grown n (x ∷ xs) others some included full =
     let parts = and_parts (list_all (has (sign_in others x.formula)) x.sign) (is_included xs others) included in
@@ -107,6 +107,12 @@ axiom_grown n (x ∷ xs) others some included full =
         and_from (has (sign_in others x.formula) v) (list_all (has (sign_in others x.formula)) values) (list_all-has (has (sign_in others x.formula)) x.sign v within parts.0) (all_within values parts.1 within)
 
 -- ---- items in some order
+
+-- a line with the items of a sequent is included in it
+pub included_in_any_order : (n : ℕ) (items goal : List SignedFormula) → IsSequent n goal → IsPermutation items goal → is_included items goal ≡ true
+included_in_any_order n items goal is same =
+    included_stands items goal is.distinct (λ f w stands. sym (list_any-IsPermutation (λ (item : SignedFormula). same_formula f item.formula && has item.sign w) items goal same) ∙ stands)
+
 list_all-permutation : {X : Type 0} (test : X → Bool) (xs ys : List X) → IsPermutation xs ys → list_all test xs ≡ true → list_all test ys ≡ true
 list_all-permutation test xs ys same all = list_all-from_AllPass test ys (All-permutation (λ x. test x ≡ true) xs ys same (AllPass-from_list_all test xs all))
 

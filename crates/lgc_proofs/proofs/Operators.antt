@@ -71,7 +71,7 @@ module _ {X : Type 0} (f : X → ℕ) where
       omega (arith, sum_by-cons f x xs, sum_by_popped f x ys left moved, rest)
 
 -- a formula with a value in its sign occurs
-sign_occurs : (items : List SignedFormula) (f : Formula) (v : ℕ) → has (sign_in items f) v ≡ true → Contains (map (λ item. item.formula) items) f
+pub sign_occurs : (items : List SignedFormula) (f : Formula) (v : ℕ) → has (sign_in items f) v ≡ true → Contains (map (λ item. item.formula) items) f
 sign_occurs [] f v member = absurd (true≢false (sym member))
 sign_occurs (x ∷ xs) f v member = by (same_formula f x.formula) refl member (sign_occurs xs f v)
   where

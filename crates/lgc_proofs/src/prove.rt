@@ -1,9 +1,8 @@
 // The search for a goal's line.
-ghost use Rattle.std.specs.Prelude.{◌≡◌, [], false, map, All, IfOk};
-ghost use Rattle.lgc_clauses.specs.Rules.{OperatorRule, of_operator};
+ghost use Rattle.std.specs.Prelude.{◌≡◌, false, All, IfOk};
+ghost use Rattle.lgc_clauses.specs.Rules.{OperatorRule};
 ghost use Rattle.lgc_syntax.specs.Fits.{Fits};
 ghost use Rattle.lgc_syntax.specs.Sizes.{has_quantifier};
-ghost use Rattle.lgc_sequents.specs.Steps.{AreSteps};
 ghost use Rattle.lgc_calculus.specs.RuleBook.{IsRightBook};
 ghost use Rattle.lgc_lemmas.specs.Steps.{IsGrown};
 ghost use Rattle.lgc_decision.specs.Decided.{IsProvedFrom};
@@ -36,7 +35,6 @@ impl<const N: usize> Proofs<N> {
         requires fits { All (λ item. Fits m.now item.formula) goal.now }
         requires propositional { All (λ item. has_quantifier item.formula ≡ false) goal.now }
         requires right { IsRightBook m.now book.old }
-        requires steps { AreSteps m.now.size (map of_operator book.old) [] self.old }
         ensures found { IfOk result (IsFound m.now self.new goal.now) }
         ensures appended { AreAppended m.now book.new goal.now self.old self.new }
         ensures rules { IsGrown OperatorRule book.old book.new }

@@ -1,17 +1,14 @@
 -- The evidence for a query: lines that prove its goals, or values of its atoms by which a goal is false.
 use Rattle.std.proofs.Common.{◌≡◌, ℕ, ◌+◌, ◌<◌, ◌≤◌, Bool, true, false, ◌||◌, ◌&&◌, List, [], ◌∷◌, ◌++◌, take, get_or, slice_get, Some, refl, sym, ◌∙◌, ap, subst, arith}
-use Rattle.std.specs.Prelude.{IsPermutation}
 use Rattle.std.specs.List.{All, AllZip, list_any, list_all, flat_map}
 use Rattle.std.proofs.lemmas.Bool.{both_ways}
 use Rattle.std.proofs.lemmas.List.{take_all, take_more}
 use Rattle.std.proofs.lemmas.List.Elements.{All-map, All-weaker, All-head, All-tail}
 use Rattle.std.proofs.lemmas.List.Folds.{list_all_at}
-use Rattle.std.proofs.lemmas.List.Sorted.{list_any-IsPermutation}
 use Rattle.std.proofs.lemmas.Option.{slice_get_within, get_or_from_slice_get}
 use Rattle.lgc_values.specs.Values.{has}
 use Rattle.lgc_values.specs.Logic.{Logic, IsLogic}
 use Rattle.lgc_syntax.specs.declared.formula.Formula.{Formula}
-use Rattle.lgc_syntax.specs.Equality.{same_formula}
 use Rattle.lgc_syntax.specs.Fits as syntax
 use Rattle.lgc_syntax.specs.Sizes.{has_quantifier}
 use Rattle.lgc_syntax.specs.Values.{listed, value, IsValuation}
@@ -29,13 +26,13 @@ use Rattle.lgc_sequents.specs.Rests.{IsPendingBased}
 use Rattle.lgc_sequents.specs.declared.line.Reason.TheVariants.{Pending}
 use Rattle.lgc_sequents.proofs.StepLaws.{AllZip-weaker, IsPosition-append, sequent_at-append}
 use Rattle.lgc_sequents.proofs.RestLaws.{none_pending}
-use Rattle.lgc_packed.proofs.SequentLaws.{included_stands}
 use Rattle.lgc_report.specs.declared.report.Evidence.{Evidence}
 use Rattle.lgc_report.specs.declared.report.Evidence.TheVariants.{Proved, Refuted, Unfinished}
 use Rattle.lgc_report.specs.Valid.{IsIncludedAt, IsEvidence}
 use Rattle.lgc_decision.specs.Decided.{IsCounterexample}
 use Rattle.lgc_proofs.specs.Reasons.{IsPlainReason}
 use Rattle.lgc_proofs.specs.Found.{IsProvedAt}
+use Rattle.lgc_proofs.proofs.LineSteps.{included_in_any_order}
 use Rattle.lgc_prove.specs.Answers.{Decides}
 use Rattle.lgc_prove.specs.Work.{Proves, IsAnsweredBy, AreAppendedFor, atoms_with_values}
 use Rattle.lgc_prove.proofs.GoalFormulas.{all_of_goal_at}
@@ -54,11 +51,6 @@ zip_push R (a ∷ xs) [] x y all one = absurd all
 zip_push R (a ∷ xs) (b ∷ ys) x y all one = (all.0, zip_push R xs ys x y all.1 one)
 
 -- ---- goals that are proved
-
--- a line with the items of a sequent is included in it
-included_in_any_order : (n : ℕ) (items goal : List SignedFormula) → IsSequent n goal → IsPermutation items goal → is_included items goal ≡ true
-included_in_any_order n items goal is same =
-    included_stands items goal is.distinct (λ f w stands. sym (list_any-IsPermutation (λ (item : SignedFormula). same_formula f item.formula && has item.sign w) items goal same) ∙ stands)
 
 proves_goal : (logic : Logic) (lines : List PlainLine) (position : ℕ) (goal : List SignedFormula) → IsSequent logic.size goal → IsProvedAt logic lines goal position → Proves logic lines position goal
 proves_goal logic lines position goal is proved = record {

@@ -19,7 +19,7 @@ prove-requires g c =
     let at : slice_get (goals_of logic.size query) c.args.place ≡ Some made = subst (λ (n : ℕ). slice_get (goals_of n query) c.args.place ≡ Some made) (sym c.operators-operators.ensures.size) c.in_ok-goal.ensures in
     let fit = all_of_goal_at (Fits logic) logic.size query c.args.place made at c.requires.asked.writable.query_for.fits.formulas in
     let propositional = all_of_goal_at (λ f. has_quantifier f ≡ false) logic.size query c.args.place made at c.requires.asked.propositional in
-    (omega arith, (omega arith, (omega arith, (omega arith, (fit, (propositional, (c.requires.lines.right, c.requires.lines.steps)))))))
+    (omega arith, (omega arith, (omega arith, (omega arith, (fit, (propositional, c.requires.lines.right))))))
 
 pub returns-clause-lines : goal.returns-clause-lines
 returns-clause-lines g c =
