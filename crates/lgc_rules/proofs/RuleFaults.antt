@@ -19,6 +19,9 @@ use Rattle.lgc_rules.specs.RuleFile.{IsRuleFault}
 number_only : {Q : ℕ → Type 0} (least most fault : ℕ) (test : Spelled → Bool) → Q fault → Only Q (NumberFrom least most fault test)
 number_only least most fault test has = only_mapped number (only_allowed test (is_outside least most) fault has)
 
+abbrev numbered : {n : ℕ} → ℕ → Rule n → Numbered n
+numbered k rule = record { number = k; rule = rule }
+
 -- ---- of a property of the numbers
 
 module _ {Q : ℕ → Type 0} (of_name : Q UNKNOWN_NAME) (of_arity : Q WRONG_ARITY) (of_value : Q UNKNOWN_VALUE) (of_argument : Q BAD_ARGUMENT) (n : ℕ) (logic : Logic) where
@@ -102,9 +105,6 @@ module _ {Q : ℕ → Type 0} (of_name : Q UNKNOWN_NAME) (of_arity : Q WRONG_ARI
 
   quantifier_only : Only Q (OfQuantifier n logic)
   quantifier_only = only_then quantifier_head_only (λ quant. body_only (QuantifierClause n logic) (quantifier_rule n quant) quantifier_clause_only)
-
-  abbrev numbered : ℕ → Rule n → Numbered n
-  numbered k rule = record { number = k; rule = rule }
 
   -- a rule, by what its own number can break
   pub one_rule_only : (least most : ℕ) → Only Q (NumberFrom least most MISNUMBERED is_number) → Only Q (OneRule n logic least most)
