@@ -1,0 +1,4 @@
+pub mod Trees
+pub mod Compounds
+pub mod UnfoldingLaws
+pub mod Roots
