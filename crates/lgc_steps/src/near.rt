@@ -1,9 +1,9 @@
 // Looking formulas up, from the place of the last one on: the items of a premise stand mostly in the order of the conclusion.
 ghost use Rattle.std.specs.Prelude.{◌≡◌, ◌≤◌, ◌<◌, false, length, MatchOption};
-ghost use Rattle.lgc_sequents.specs.Sequents.{IsSequent, sign_in, occurs};
+ghost use Rattle.lgc_sequents.specs.Sequents.{IsSequent, sign_in, occurs, is_included};
 ghost use Rattle.lgc_steps.specs.StepTests.{IsPlaceOf};
 
-use lgc_sequents::Signed;
+use lgc_sequents::{Sequent, Signed};
 use lgc_syntax::{Formula, same_formula};
 use lgc_values::ValueSet;
 
@@ -50,4 +50,23 @@ pub(crate) fn sign_near<const N: usize>(
         }
         None => ValueSet::empty(),
     }
+}
+
+/// Whether each value of each item's sign lies in the sign that its formula has in a sequent, as [`Sequent::included_in`] tells it. Each
+/// formula is looked for from the place of the last one on, so where the items stand in the order of the sequent, this takes time by their
+/// number.
+pub fn are_included<const N: usize>(items: &[Signed<N>], sequent: &Sequent<N>) -> bool
+    ensures { result ≡ is_included items.now sequent.now }
+{
+    let all = sequent.items();
+    let mut near = 0;
+    for item in items {
+        if !item
+            .sign
+            .is_subset(sign_near(all, &item.formula, &mut near))
+        {
+            return false;
+        }
+    }
+    true
 }
