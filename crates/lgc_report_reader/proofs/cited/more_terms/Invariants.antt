@@ -1,0 +1,14 @@
+use Rattle.std.proofs.Common.{◌≡◌, length}
+use Rattle.lgc_tokens.specs.Spelled.{IsRest}
+use Rattle.lgc_report_reader.specs.Reported.{reports}
+use Rattle.lgc_report_reader.specs.ReportReading.{more_terms_at}
+use Rattle.lgc_report_reader.proofs.cited.more_terms.Given as goal
+
+abbrev pub invariant-loop-alloc : goal.invariant-loop-alloc
+invariant-loop-alloc g l = record {
+  so_far : more_terms_at l.terms (reports l.c l.rest) ≡ more_terms_at l.fn.terms (reports l.c l.tokens);
+  rest : IsRest l.c.bytes.now l.tokens l.rest;
+}
+
+abbrev pub decreases-loop-alloc : goal.decreases-loop-alloc
+decreases-loop-alloc g l = length l.rest
