@@ -3,6 +3,7 @@ use Rattle.std.proofs.Common.{◌≡◌, ℕ, ◌<◌, length, Bool, true, false
 use Rattle.std.specs.Prelude.{nat_lt}
 use Rattle.std.proofs.lemmas.Bool.Decides.{nat_tests}
 use Rattle.lgc_io.specs.Files.{FilesState}
+use Rattle.lgc_io.specs.Sinks.{Takes}
 use Rattle.lgc_values.specs.Logic.{Logic}
 use Rattle.lgc_clauses.specs.declared.rule.Rule.{Rule}
 use Rattle.lgc_syntax.specs.declared.fault.InputFault.{InputFault}
@@ -20,8 +21,8 @@ use Rattle.lgc_top.specs.Prove.{QueriesGiven, IsReportOn}
 use Rattle.lgc_top.specs.Steps.{on_both, limit_of, verdict_status, answer_status}
 use Rattle.lgc_spec.specs.declared.spec.Spec.{Spec}
 use Rattle.lgc_spec.specs.Logics.{logic_of}
-use Rattle.lgc_top.specs.Commands.{Calculus, Verify, Prove, spec_of, input_of, command_of}
-use Rattle.lgc_top.specs.Run.{Run, HasInput, HasInputFault, CommandAnswers, Ends, WordsAnswer, PrintsCalculus, PrintsVerdicts, PrintsReport}
+use Rattle.lgc_top.specs.Commands.{Command, Calculus, Verify, Prove, spec_of, input_of, command_of}
+use Rattle.lgc_top.specs.Run.{Run, HasInput, HasInputFault, WorksOn, CommandAnswers, Answers, Ends, WordsAnswer, PrintsCalculus, PrintsOn, PrintsVerdicts, PrintsReport}
 
 -- what the output gained
 module _ (run : Run) where
@@ -32,33 +33,35 @@ module _ (run : Run) where
         let (kept, (spec, asked, calculus)) = subst (λ found. WordsAnswer found run.files run.files_after Done text) command answers in
         record { spec = spec; asked = asked; text = text; calculus = calculus; printed = takes }
 
+  -- what stands in the output after the work on a second file
+  module _ (command : Command) (status ended : Status) (IsTextOn : Logic → List ℕ → List ℕ → Type 0) (out : Ends run status → (text : List ℕ) × Answers run status text × Takes run.out run.out_after text)
+      (works : (text : List ℕ) → CommandAnswers command run.files run.files_after status text → WorksOn command run.files (λ logic bytes. IsTextOn logic bytes text)) where
+    prints_on : Ends run ended → command_of run.words ≡ Some command → ended ≡ status → PrintsOn run command IsTextOn
+    prints_on ends asks is =
+        let (text, answers, takes) = out (subst (Ends run) is ends) in
+        let (spec, bytes, asked, done) = works text (subst (λ found. WordsAnswer found run.files run.files_after status text) asks answers) in
+        record { spec = spec; bytes = bytes; asked = asked; text = text; is = done; printed = takes }
+
+  done : Ends run Done → (text : List ℕ) × Answers run Done text × Takes run.out run.out_after text
+  done (text, answers, (takes, same)) = (text, answers, takes)
+
+  refuted : Ends run Refuted → (text : List ℕ) × Answers run Refuted text × Takes run.out run.out_after text
+  refuted (text, answers, (takes, same)) = (text, answers, takes)
+
+  rejected : Ends run Rejected → (text : List ℕ) × Answers run Rejected text × Takes run.out run.out_after text
+  rejected (text, answers, (takes, same)) = (text, answers, takes)
+
   pub prints_right : (file rules : List ℕ) (ended : Status) → Ends run ended → command_of run.words ≡ Some (Verify file rules) → ended ≡ Done → PrintsVerdicts run file rules true
-  prints_right file rules ended ends command is = from (subst (Ends run) is ends) where
-    from : Ends run Done → PrintsVerdicts run file rules true
-    from (text, answers, (takes, same)) =
-        let (kept, (spec, bytes, asked, verdicts)) = subst (λ found. WordsAnswer found run.files run.files_after Done text) command answers in
-        record { spec = spec; bytes = bytes; asked = asked; text = text; verdicts = verdicts; printed = takes }
+  prints_right file rules ended = prints_on (Verify file rules) Done ended (λ logic bytes text. IsVerdictText logic true bytes text) done (λ text answers. answers.1)
 
   pub prints_rejected : (file rules : List ℕ) (ended : Status) → Ends run ended → command_of run.words ≡ Some (Verify file rules) → ended ≡ Rejected → PrintsVerdicts run file rules false
-  prints_rejected file rules ended ends command is = from (subst (Ends run) is ends) where
-    from : Ends run Rejected → PrintsVerdicts run file rules false
-    from (text, answers, (takes, same)) =
-        let (kept, (spec, bytes, asked, verdicts)) = subst (λ found. WordsAnswer found run.files run.files_after Rejected text) command answers in
-        record { spec = spec; bytes = bytes; asked = asked; text = text; verdicts = verdicts; printed = takes }
+  prints_rejected file rules ended = prints_on (Verify file rules) Rejected ended (λ logic bytes text. IsVerdictText logic false bytes text) rejected (λ text answers. answers.1)
 
   pub prints_proved : (file queries : List ℕ) (ended : Status) → Ends run ended → command_of run.words ≡ Some (Prove file queries) → ended ≡ Done → PrintsReport run file queries true
-  prints_proved file queries ended ends command is = from (subst (Ends run) is ends) where
-    from : Ends run Done → PrintsReport run file queries true
-    from (text, answers, (takes, same)) =
-        let (kept, (spec, bytes, asked, report)) = subst (λ found. WordsAnswer found run.files run.files_after Done text) command answers in
-        record { spec = spec; bytes = bytes; asked = asked; text = text; report = report; printed = takes }
+  prints_proved file queries ended = prints_on (Prove file queries) Done ended (λ logic bytes text. IsReportOn logic true bytes text) done (λ text answers. answers.1)
 
   pub prints_refuted : (file queries : List ℕ) (ended : Status) → Ends run ended → command_of run.words ≡ Some (Prove file queries) → ended ≡ Refuted → PrintsReport run file queries false
-  prints_refuted file queries ended ends command is = from (subst (Ends run) is ends) where
-    from : Ends run Refuted → PrintsReport run file queries false
-    from (text, answers, (takes, same)) =
-        let (kept, (spec, bytes, asked, report)) = subst (λ found. WordsAnswer found run.files run.files_after Refuted text) command answers in
-        record { spec = spec; bytes = bytes; asked = asked; text = text; report = report; printed = takes }
+  prints_refuted file queries ended = prints_on (Prove file queries) Refuted ended (λ logic bytes text. IsReportOn logic false bytes text) refuted (λ text answers. answers.1)
 
 abbrev told_fault : (n number offset : ℕ) → Result (List (Rule n)) InputFault
 told_fault n number offset = Err (input.Fault number offset)

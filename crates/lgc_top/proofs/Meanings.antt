@@ -1,10 +1,11 @@
 -- The files of a command mean one status, the one that is answered.
 use Rattle.std.proofs.Common.{◌≡◌, ℕ, true, false, List, Some, None, Result, Ok, Err, refl, sym, subst, ◌∙◌, inl, inr}
-use Rattle.std.specs.Prelude.{◌⊎◌, Option, IfSome, IsSomeAnd}
+use Rattle.std.specs.Prelude.{◌⊎◌, Option, IfSome, IsSomeAnd, All, map}
 use Rattle.lgc_io.specs.Files.{FilesState, Holds, file_at}
 use Rattle.lgc_io.specs.Sinks.{TakesPart}
 use Rattle.lgc_values.specs.Logic.{Logic}
 use Rattle.lgc_clauses.specs.declared.rule.Rule.{Rule}
+use Rattle.lgc_clauses.specs.Kinds.{plain_rule}
 use Rattle.lgc_spec.specs.declared.spec.Spec.{Spec}
 use Rattle.lgc_spec.specs.declared.fault.SpecFault.{SpecFault}
 use Rattle.lgc_spec.specs.declared.fault.SpecFault.TheVariants.{Fault}
@@ -14,6 +15,8 @@ use Rattle.lgc_spec.proofs.OneSpec.{one_answer}
 use Rattle.lgc_syntax.specs.declared.fault.InputFault.{InputFault}
 use Rattle.lgc_syntax.specs.declared.fault.InputFault.TheVariants as input
 use Rattle.lgc_meaning.specs.declared.query.Query.{Query}
+use Rattle.lgc_verify.specs.Verdicts.{IsRight}
+use Rattle.lgc_prove.specs.Answers.{IsSatisfiedEverywhere}
 use Rattle.lgc_rules.proofs.Tops as rules
 use Rattle.lgc_queries.proofs.QueryFiles as queries
 use Rattle.lgc_top.specs.declared.status.Status.{Status}
@@ -21,8 +24,8 @@ use Rattle.lgc_top.specs.declared.status.Status.TheVariants.{Done, Refuted, Usag
 use Rattle.lgc_top.specs.Commands.{Command, Calculus, Verify, Prove, spec_of, input_of}
 use Rattle.lgc_top.specs.Verify.{RulesGiven}
 use Rattle.lgc_top.specs.Prove.{QueriesGiven}
-use Rattle.lgc_top.specs.Run.{Run, Ends, Answers, FilesAnswer, CommandAnswers, WordsAnswer, Works, Puts, HasInput}
-use Rattle.lgc_top.specs.Means.{Tells, RulesMean, QueriesMean, SpecMeans, CommandMeans, Means, IsFaultless}
+use Rattle.lgc_top.specs.Run.{Run, Ends, Answers, FilesAnswer, CommandAnswers, WordsAnswer, Works, Puts, HasSpec, HasInput}
+use Rattle.lgc_top.specs.Means.{Tells, GivenMeans, InputMeans, LogicMeans, SpecMeans, CommandMeans, Means, IsFaultless}
 
 -- what a file that is told holds is one list of bytes
 held_once : (files : FilesState) (file bytes other : List ℕ) → Holds files file bytes → Tells files file other → bytes ≡ other
@@ -33,29 +36,44 @@ held_once files file bytes other held told = by files.told held told where
 
 -- ---- an answered status is meant
 
-second_held : (command : Command) (input : List ℕ) (files : FilesState) (spec : Spec) (bytes : List ℕ) → input_of command ≡ Some input → HasInput command files spec bytes → Holds files input bytes
-second_held command input files spec bytes is has = let same : has.file ≡ input = (let some : Some input ≡ Some has.file = sym is ∙ has.named in cc) in subst (λ f. Holds files f bytes) same has.held
+module _ (command : Command) (files : FilesState) (status : Status) where
+  -- what the logic of a specification means
+  with_spec : (spec : Spec) → HasSpec command files spec → LogicMeans (Holds files) command (logic_of spec) status → CommandMeans (Holds files) command status
+  with_spec spec has means = (has.bytes, Ok spec, has.held, has.given, means)
+
+  -- what a second file gives
+  module _ {A : Type 0} (name : List ℕ) (named : input_of command ≡ Some name) (spec : Spec) (bytes : List ℕ) (has : HasInput command files spec bytes) (Gives : List ℕ → Result A InputFault → Type 0) (Passes : A → Type 0) (failing : Status) where
+    held : Holds files name bytes
+    held = let same : has.file ≡ name = (let some : Some name ≡ Some has.file = sym named ∙ has.named in cc) in subst (λ file. Holds files file bytes) same has.held
+
+    with_input : (told : Result A InputFault) → Gives bytes told → GivenMeans Passes failing told status → InputMeans (Holds files) name Gives Passes failing status
+    with_input told gives means = (bytes, told, held, gives, means)
+
+abbrev is_right : (logic : Logic) → List (Rule logic.size) → Type 0
+is_right logic rules = All (IsRight logic) (map plain_rule rules)
 
 works_mean : (command : Command) (files : FilesState) (status : Status) (text : List ℕ) → Works command files status text → CommandMeans (Holds files) command status
-works_mean (Calculus file) files Done text (spec, has, calculus) = (has.bytes, Ok spec, has.held, has.given, refl)
+works_mean (Calculus file) files Done text (spec, has, calculus) = with_spec (Calculus file) files Done spec has refl
 works_mean (Calculus file) files _ text h = absurd h
 works_mean (Verify file rules) files Done text (spec, bytes, has, verdicts) =
-    (has.logic.bytes, Ok spec, has.logic.held, has.logic.given, (bytes, Ok verdicts.rules, second_held (Verify file rules) rules files spec bytes refl has, verdicts.given, verdicts.decided.0 refl))
+    with_spec (Verify file rules) files Done spec has.logic (with_input (Verify file rules) files Done rules refl spec bytes has (RulesGiven (logic_of spec)) (is_right (logic_of spec)) Rejected (Ok verdicts.rules) verdicts.given (inl (verdicts.decided.0 refl, refl)))
 works_mean (Verify file rules) files Rejected text (spec, bytes, has, verdicts) =
-    (has.logic.bytes, Ok spec, has.logic.held, has.logic.given, (bytes, Ok verdicts.rules, second_held (Verify file rules) rules files spec bytes refl has, verdicts.given, λ all. let no : false ≡ true = verdicts.decided.1 all in absurd cc))
+    with_spec (Verify file rules) files Rejected spec has.logic (with_input (Verify file rules) files Rejected rules refl spec bytes has (RulesGiven (logic_of spec)) (is_right (logic_of spec)) Rejected (Ok verdicts.rules) verdicts.given
+    (inr ((λ all. let no : false ≡ true = verdicts.decided.1 all in absurd cc), refl)))
 works_mean (Verify file rules) files _ text h = absurd h
 works_mean (Prove file queries) files Done text (spec, bytes, has, report) =
-    (has.logic.bytes, Ok spec, has.logic.held, has.logic.given, (bytes, Ok report.queries, second_held (Prove file queries) queries files spec bytes refl has, report.given, report.answers.decided.0 refl))
+    with_spec (Prove file queries) files Done spec has.logic (with_input (Prove file queries) files Done queries refl spec bytes has (QueriesGiven (logic_of spec)) (All (IsSatisfiedEverywhere (logic_of spec))) Refuted (Ok report.queries) report.given (inl (report.answers.decided.0 refl, refl)))
 works_mean (Prove file queries) files Refuted text (spec, bytes, has, report) =
-    (has.logic.bytes, Ok spec, has.logic.held, has.logic.given, (bytes, Ok report.queries, second_held (Prove file queries) queries files spec bytes refl has, report.given, λ all. let no : false ≡ true = report.answers.decided.1 all in absurd cc))
+    with_spec (Prove file queries) files Refuted spec has.logic (with_input (Prove file queries) files Refuted queries refl spec bytes has (QueriesGiven (logic_of spec)) (All (IsSatisfiedEverywhere (logic_of spec))) Refuted (Ok report.queries) report.given
+    (inr ((λ all. let no : false ≡ true = report.answers.decided.1 all in absurd cc), refl)))
 works_mean (Prove file queries) files _ text h = absurd h
 
 faults_mean : (command : Command) (files : FilesState) (line : List ℕ) → FilesAnswer command files BadInput line → CommandMeans (Holds files) command BadInput
 faults_mean (Calculus file) files line (spec, bytes, has, fault) = absurd fault.given
 faults_mean (Verify file rules) files line (spec, bytes, has, fault) =
-    (has.logic.bytes, Ok spec, has.logic.held, has.logic.given, (bytes, Err (input.Fault fault.number fault.offset), second_held (Verify file rules) rules files spec bytes refl has, fault.given, refl))
+    with_spec (Verify file rules) files BadInput spec has.logic (with_input (Verify file rules) files BadInput rules refl spec bytes has (RulesGiven (logic_of spec)) (is_right (logic_of spec)) Rejected (Err (input.Fault fault.number fault.offset)) fault.given refl)
 faults_mean (Prove file queries) files line (spec, bytes, has, fault) =
-    (has.logic.bytes, Ok spec, has.logic.held, has.logic.given, (bytes, Err (input.Fault fault.number fault.offset), second_held (Prove file queries) queries files spec bytes refl has, fault.given, refl))
+    with_spec (Prove file queries) files BadInput spec has.logic (with_input (Prove file queries) files BadInput queries refl spec bytes has (QueriesGiven (logic_of spec)) (All (IsSatisfiedEverywhere (logic_of spec))) Refuted (Err (input.Fault fault.number fault.offset)) fault.given refl)
 
 answers_mean : (command : Command) (files files_after : FilesState) (status : Status) (bytes : List ℕ) → CommandAnswers command files files_after status bytes → (status ≡ ReadFault → ⊥) → CommandMeans (Holds files) command status
 answers_mean command files files_after ReadFault line h other = absurd (other refl)
@@ -70,46 +88,34 @@ answers_mean command files files_after Memory text (same, h) other = works_mean 
 
 -- ---- one status is meant
 
-given_once : (logic : Logic) (bytes : List ℕ) (found also : Result (List (Rule logic.size)) InputFault) → RulesGiven logic bytes found → RulesGiven logic bytes also → found ≡ also
-given_once logic bytes found also gives given = sym (rules.file_once logic.size logic bytes found gives) ∙ rules.file_once logic.size logic bytes also given
-
-rules_once : (logic : Logic) (told : Result (List (Rule logic.size)) InputFault) (a b : Status) → RulesMean logic told a → RulesMean logic told b → a ≡ b
-rules_once logic (Err fault) a b p q = p ∙ sym q
-rules_once logic (Ok rules) Done Done p q = refl
-rules_once logic (Ok rules) Done Rejected p q = absurd (q p)
-rules_once logic (Ok rules) Rejected Done p q = absurd (p q)
-rules_once logic (Ok rules) Rejected Rejected p q = refl
-rules_once logic (Ok rules) Done _ p q = absurd q
-rules_once logic (Ok rules) Rejected _ p q = absurd q
-rules_once logic (Ok rules) _ _ p q = absurd p
-
-queries_given_once : (logic : Logic) (bytes : List ℕ) (found also : Result (List Query) InputFault) → QueriesGiven logic bytes found → QueriesGiven logic bytes also → found ≡ also
-queries_given_once logic bytes found also gives given = sym (queries.file_once logic bytes found gives) ∙ queries.file_once logic bytes also given
-
-queries_once : (logic : Logic) (told : Result (List Query) InputFault) (a b : Status) → QueriesMean logic told a → QueriesMean logic told b → a ≡ b
-queries_once logic (Err fault) a b p q = p ∙ sym q
-queries_once logic (Ok queries) Done Done p q = refl
-queries_once logic (Ok queries) Done Refuted p q = absurd (q p)
-queries_once logic (Ok queries) Refuted Done p q = absurd (p q)
-queries_once logic (Ok queries) Refuted Refuted p q = refl
-queries_once logic (Ok queries) Done _ p q = absurd q
-queries_once logic (Ok queries) Refuted _ p q = absurd q
-queries_once logic (Ok queries) _ _ p q = absurd p
+-- what bytes give means one status
+given_once : {A : Type 0} (Passes : A → Type 0) (failing : Status) (told : Result A InputFault) (a b : Status) → GivenMeans Passes failing told a → GivenMeans Passes failing told b → a ≡ b
+given_once Passes failing (Err fault) a b p q = p ∙ sym q
+given_once Passes failing (Ok given) a b (inl p) (inl q) = p.1 ∙ sym q.1
+given_once Passes failing (Ok given) a b (inl p) (inr q) = absurd (q.0 p.0)
+given_once Passes failing (Ok given) a b (inr p) (inl q) = absurd (p.0 q.0)
+given_once Passes failing (Ok given) a b (inr p) (inr q) = p.1 ∙ sym q.1
 
 module _ (files : FilesState) where
+  -- and so does a second file, whose bytes give one thing
+  input_once : {A : Type 0} (name : List ℕ) (Gives : List ℕ → Result A InputFault → Type 0) (Passes : A → Type 0) (failing : Status) → ((bytes : List ℕ) (found also : Result A InputFault) → Gives bytes found → Gives bytes also → found ≡ also)
+      → (a b : Status) → InputMeans (Holds files) name Gives Passes failing a → InputMeans (Tells files) name Gives Passes failing b → a ≡ b
+  input_once name Gives Passes failing once a b (bytes, found, held, gives, p) (other, also, told, given, q) =
+      let same : bytes ≡ other = held_once files name bytes other held told in
+      let one : found ≡ also = once bytes found also gives (subst (λ some. Gives some also) (sym same) given) in
+      given_once Passes failing found a b p (subst (λ f. GivenMeans Passes failing f b) (sym one) q)
+
+  rules_once : (logic : Logic) (bytes : List ℕ) (found also : Result (List (Rule logic.size)) InputFault) → RulesGiven logic bytes found → RulesGiven logic bytes also → found ≡ also
+  rules_once logic bytes found also gives given = sym (rules.file_once logic.size logic bytes found gives) ∙ rules.file_once logic.size logic bytes also given
+
+  queries_once : (logic : Logic) (bytes : List ℕ) (found also : Result (List Query) InputFault) → QueriesGiven logic bytes found → QueriesGiven logic bytes also → found ≡ also
+  queries_once logic bytes found also gives given = sym (queries.file_once logic bytes found gives) ∙ queries.file_once logic bytes also given
+
   spec_once : (command : Command) (found : Result Spec SpecFault) (a b : Status) → SpecMeans (Holds files) command found a → SpecMeans (Tells files) command found b → a ≡ b
   spec_once command (Err fault) a b p q = p ∙ sym q
   spec_once (Calculus file) (Ok spec) a b p q = p ∙ sym q
-  spec_once (Verify file rules) (Ok spec) a b (bytes, found, held, gives, p) (other, also, told, given, q) =
-      let logic : Logic = logic_of spec in
-      let same : bytes ≡ other = held_once files rules bytes other held told in
-      let one : found ≡ also = given_once logic bytes found also gives (subst (λ some. RulesGiven logic some also) (sym same) given) in
-      rules_once logic found a b p (subst (λ f. RulesMean logic f b) (sym one) q)
-  spec_once (Prove file queries) (Ok spec) a b (bytes, found, held, gives, p) (other, also, told, given, q) =
-      let logic : Logic = logic_of spec in
-      let same : bytes ≡ other = held_once files queries bytes other held told in
-      let one : found ≡ also = queries_given_once logic bytes found also gives (subst (λ some. QueriesGiven logic some also) (sym same) given) in
-      queries_once logic found a b p (subst (λ f. QueriesMean logic f b) (sym one) q)
+  spec_once (Verify file rules) (Ok spec) a b p q = input_once rules (RulesGiven (logic_of spec)) (is_right (logic_of spec)) Rejected (rules_once (logic_of spec)) a b p q
+  spec_once (Prove file queries) (Ok spec) a b p q = input_once queries (QueriesGiven (logic_of spec)) (All (IsSatisfiedEverywhere (logic_of spec))) Refuted (queries_once (logic_of spec)) a b p q
 
   means_once : (command : Command) (a b : Status) → CommandMeans (Holds files) command a → CommandMeans (Tells files) command b → a ≡ b
   means_once command a b (bytes, found, held, gives, p) (other, also, told, given, q) =

@@ -1,16 +1,14 @@
 -- What the files of a command mean: the status that a run on them is meant to end with.
-use Rattle.std.specs.Prelude.{◌≡◌, ℕ, List, All, map, Some, Result, Ok, Err, IsSomeAnd}
+use Rattle.std.specs.Prelude.{◌≡◌, ◌⊎◌, ℕ, List, All, map, Some, Result, Ok, Err, IsSomeAnd}
 use Rattle.lgc_io.specs.Faults.{Rose}
 use Rattle.lgc_io.specs.Files.{FilesState, file_at}
 use Rattle.lgc_values.specs.Logic.{Logic}
-use Rattle.lgc_clauses.specs.declared.rule.Rule.{Rule}
 use Rattle.lgc_clauses.specs.Kinds.{plain_rule}
 use Rattle.lgc_spec.specs.declared.spec.Spec.{Spec}
 use Rattle.lgc_spec.specs.declared.fault.SpecFault.{SpecFault}
 use Rattle.lgc_spec.specs.Logics.{logic_of}
 use Rattle.lgc_spec.specs.Specification.{BytesGive}
 use Rattle.lgc_syntax.specs.declared.fault.InputFault.{InputFault}
-use Rattle.lgc_meaning.specs.declared.query.Query.{Query}
 use Rattle.lgc_verify.specs.Verdicts.{IsRight}
 use Rattle.lgc_prove.specs.Answers.{IsSatisfiedEverywhere}
 use Rattle.lgc_top.specs.declared.status.Status.{Status}
@@ -30,25 +28,20 @@ pub record IsFaultless (run : Run) : Type 0 where
 abbrev pub Tells : FilesState → List ℕ → List ℕ → Type 0
 Tells files file bytes = IsSomeAnd files.told (λ told. file_at told file ≡ Some bytes)
 
--- What a rule file means by what it gives: a fault BadInput, and rules Done or Rejected, by whether all of them are right.
-abbrev pub RulesMean : (logic : Logic) → Result (List (Rule logic.size)) InputFault → Status → Type 0
-RulesMean logic (Err fault) status = status ≡ BadInput
-RulesMean logic (Ok rules) Done = All (IsRight logic) (map plain_rule rules)
-RulesMean logic (Ok rules) Rejected = All (IsRight logic) (map plain_rule rules) → ⊥
-RulesMean logic (Ok rules) status = ⊥
+-- What a second file means by what it gives: a fault BadInput. What has no fault means Done where it passes, and else another status.
+abbrev pub GivenMeans : {A : Type 0} → (A → Type 0) → Status → Result A InputFault → Status → Type 0
+GivenMeans Passes failing (Err fault) status = status ≡ BadInput
+GivenMeans Passes failing (Ok given) status = (Passes given × (status ≡ Done)) ⊎ ((Passes given → ⊥) × (status ≡ failing))
 
--- What a query file means by what it gives: a fault BadInput, and queries Done or Refuted, by whether every valuation satisfies all of them.
-abbrev pub QueriesMean : Logic → Result (List Query) InputFault → Status → Type 0
-QueriesMean logic (Err fault) status = status ≡ BadInput
-QueriesMean logic (Ok queries) Done = All (IsSatisfiedEverywhere logic) queries
-QueriesMean logic (Ok queries) Refuted = All (IsSatisfiedEverywhere logic) queries → ⊥
-QueriesMean logic (Ok queries) status = ⊥
+-- the same of the file of a name, where `Has` says which bytes a file has, and `Gives` what they give
+abbrev pub InputMeans : {A : Type 0} → (List ℕ → List ℕ → Type 0) → List ℕ → (List ℕ → Result A InputFault → Type 0) → (A → Type 0) → Status → Status → Type 0
+InputMeans {A} Has file Gives Passes failing status = (bytes : List ℕ) × (told : Result A InputFault) × Has file bytes × Gives bytes told × GivenMeans Passes failing told status
 
--- What a logic means for a command, where `Has` says which bytes a file has.
+-- What a logic means for a command: rules pass where all of them are right, and queries where every valuation satisfies all of them.
 abbrev pub LogicMeans : (List ℕ → List ℕ → Type 0) → Command → Logic → Status → Type 0
 LogicMeans Has (Calculus file) logic status = status ≡ Done
-LogicMeans Has (Verify file rules) logic status = (bytes : List ℕ) × (told : Result (List (Rule logic.size)) InputFault) × Has rules bytes × RulesGiven logic bytes told × RulesMean logic told status
-LogicMeans Has (Prove file queries) logic status = (bytes : List ℕ) × (told : Result (List Query) InputFault) × Has queries bytes × QueriesGiven logic bytes told × QueriesMean logic told status
+LogicMeans Has (Verify file rules) logic status = InputMeans Has rules (RulesGiven logic) (λ given. All (IsRight logic) (map plain_rule given)) Rejected status
+LogicMeans Has (Prove file queries) logic status = InputMeans Has queries (QueriesGiven logic) (All (IsSatisfiedEverywhere logic)) Refuted status
 
 -- What the bytes of a specification mean: a fault BadSpec, and else what its logic means.
 abbrev pub SpecMeans : (List ℕ → List ℕ → Type 0) → Command → Result Spec SpecFault → Status → Type 0

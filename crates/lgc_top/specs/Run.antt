@@ -73,13 +73,17 @@ pub record IsInputFaultOf (command : Command) (logic : Logic) (bytes line : List
 
 -- ---- what a command answers
 
+-- the second file has bytes that make this of them true, with the logic of the first
+abbrev pub WorksOn : Command → FilesState → (Logic → List ℕ → Type 0) → Type 0
+WorksOn command files IsDone = (spec : Spec) × (bytes : List ℕ) × HasInput command files spec bytes × IsDone (logic_of spec) bytes
+
 -- each status that the work of a command ends with, and the bytes that are put under it
 abbrev pub Works : Command → FilesState → Status → List ℕ → Type 0
 Works (Calculus file) files Done text = (spec : Spec) × HasSpec (Calculus file) files spec × IsCalculusText (logic_of spec) text
-Works (Verify file rules) files Done text = (spec : Spec) × (bytes : List ℕ) × HasInput (Verify file rules) files spec bytes × IsVerdictText (logic_of spec) true bytes text
-Works (Verify file rules) files Rejected text = (spec : Spec) × (bytes : List ℕ) × HasInput (Verify file rules) files spec bytes × IsVerdictText (logic_of spec) false bytes text
-Works (Prove file queries) files Done text = (spec : Spec) × (bytes : List ℕ) × HasInput (Prove file queries) files spec bytes × IsReportOn (logic_of spec) true bytes text
-Works (Prove file queries) files Refuted text = (spec : Spec) × (bytes : List ℕ) × HasInput (Prove file queries) files spec bytes × IsReportOn (logic_of spec) false bytes text
+Works (Verify file rules) files Done text = WorksOn (Verify file rules) files (λ logic bytes. IsVerdictText logic true bytes text)
+Works (Verify file rules) files Rejected text = WorksOn (Verify file rules) files (λ logic bytes. IsVerdictText logic false bytes text)
+Works (Prove file queries) files Done text = WorksOn (Prove file queries) files (λ logic bytes. IsReportOn logic true bytes text)
+Works (Prove file queries) files Refuted text = WorksOn (Prove file queries) files (λ logic bytes. IsReportOn logic false bytes text)
 Works command files status text = ⊥
 
 -- each status that comes of what the files hold, with its cause, and with the bytes that are put under it
@@ -123,23 +127,22 @@ pub record PrintsCalculus (run : Run) (file : List ℕ) : Type 0 where
   pub calculus : IsCalculusText (logic_of spec) text
   pub printed : Takes run.out run.out_after text
 
--- the output gained the lines on the rules in the second file, and `right` tells whether all of them are right
-pub record PrintsVerdicts (run : Run) (file rules : List ℕ) (right : Bool) : Type 0 where
+-- the output gained a text of the bytes of the second file, with the logic of the first
+pub record PrintsOn (run : Run) (command : Command) (IsTextOn : Logic → List ℕ → List ℕ → Type 0) : Type 0 where
   pub spec : Spec
   pub bytes : List ℕ
-  pub asked : HasInput (Verify file rules) run.files spec bytes
+  pub asked : HasInput command run.files spec bytes
   pub text : List ℕ
-  pub verdicts : IsVerdictText (logic_of spec) right bytes text
+  pub is : IsTextOn (logic_of spec) bytes text
   pub printed : Takes run.out run.out_after text
 
--- the output gained a report that answers the queries in the second file, and `all_proved` tells whether all of them are proved
-pub record PrintsReport (run : Run) (file queries : List ℕ) (all_proved : Bool) : Type 0 where
-  pub spec : Spec
-  pub bytes : List ℕ
-  pub asked : HasInput (Prove file queries) run.files spec bytes
-  pub text : List ℕ
-  pub report : IsReportOn (logic_of spec) all_proved bytes text
-  pub printed : Takes run.out run.out_after text
+-- it is that of the lines on the rules, and `right` tells whether all of them are right
+abbrev pub PrintsVerdicts : Run → List ℕ → List ℕ → Bool → Type 0
+PrintsVerdicts run file rules right = PrintsOn run (Verify file rules) (λ logic bytes text. IsVerdictText logic right bytes text)
+
+-- it is that of a report that answers the queries, and `all_proved` tells whether all of them are proved
+abbrev pub PrintsReport : Run → List ℕ → List ℕ → Bool → Type 0
+PrintsReport run file queries all_proved = PrintsOn run (Prove file queries) (λ logic bytes text. IsReportOn logic all_proved bytes text)
 
 -- ---- numbers, and single puts
 
