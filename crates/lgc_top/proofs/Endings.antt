@@ -13,16 +13,20 @@ use Rattle.lgc_top.specs.declared.status.Status.{Status}
 use Rattle.lgc_top.specs.declared.status.Status.TheVariants.{Done, Refuted, Rejected}
 use Rattle.lgc_rules.specs.declared.file.TheConstants as rules
 use Rattle.lgc_queries.specs.declared.TheConstants as queries
+use Rattle.lgc_report.specs.declared.report.Report.{Report}
+use Rattle.lgc_report.specs.Reports.{plain_report}
+use Rattle.lgc_report_reader.specs.declared.report.TheConstants as reports
 use Rattle.lgc_meaning.specs.declared.query.Query.{Query}
 use Rattle.lgc_top.specs.declared.command.Work.{Work}
 use Rattle.lgc_top.specs.declared.command.Work.TheVariants as work
 use Rattle.lgc_top.specs.Verify.{RulesGiven, IsVerdictText}
 use Rattle.lgc_top.specs.Prove.{QueriesGiven, IsReportOn}
+use Rattle.lgc_top.specs.Check.{ReportGiven, IsVerdictOn}
 use Rattle.lgc_top.specs.Steps.{on_both, limit_of, verdict_status, answer_status}
 use Rattle.lgc_spec.specs.declared.spec.Spec.{Spec}
 use Rattle.lgc_spec.specs.Logics.{logic_of}
-use Rattle.lgc_top.specs.Commands.{Command, Calculus, Verify, Prove, spec_of, input_of, command_of}
-use Rattle.lgc_top.specs.Run.{Run, HasInput, HasInputFault, WorksOn, CommandAnswers, Answers, Ends, WordsAnswer, PrintsCalculus, PrintsOn, PrintsVerdicts, PrintsReport}
+use Rattle.lgc_top.specs.Commands.{Command, Calculus, Verify, Prove, Check, spec_of, input_of, command_of}
+use Rattle.lgc_top.specs.Run.{Run, HasInput, HasInputFault, WorksOn, CommandAnswers, Answers, Ends, WordsAnswer, PrintsCalculus, PrintsOn, PrintsVerdicts, PrintsReport, PrintsVerdictOn, IsSoundFor}
 
 -- what the output gained
 module _ (run : Run) where
@@ -63,6 +67,18 @@ module _ (run : Run) where
   pub prints_refuted : (file queries : List ℕ) (ended : Status) → Ends run ended → command_of run.words ≡ Some (Prove file queries) → ended ≡ Refuted → PrintsReport run file queries false
   prints_refuted file queries ended = prints_on (Prove file queries) Refuted ended (λ logic bytes text. IsReportOn logic false bytes text) refuted (λ text answers. answers.1)
 
+  pub prints_accepted : (file report : List ℕ) (ended : Status) → Ends run ended → command_of run.words ≡ Some (Check file report) → ended ≡ Done → PrintsVerdictOn run file report true
+  prints_accepted file report ended = prints_on (Check file report) Done ended (λ logic bytes line. IsVerdictOn logic true bytes line) done (λ text answers. answers.1)
+
+  pub prints_invalid : (file report : List ℕ) (ended : Status) → Ends run ended → command_of run.words ≡ Some (Check file report) → ended ≡ Rejected → PrintsVerdictOn run file report false
+  prints_invalid file report ended = prints_on (Check file report) Rejected ended (λ logic bytes line. IsVerdictOn logic false bytes line) rejected (λ text answers. answers.1)
+
+  -- what is accepted is sound
+  pub sound_accepted : (file report : List ℕ) (ended : Status) → Ends run ended → command_of run.words ≡ Some (Check file report) → ended ≡ Done → IsSoundFor run file report
+  sound_accepted file report ended ends asks is =
+      let printed = prints_accepted file report ended ends asks is in
+      record { spec = printed.spec; bytes = printed.bytes; asked = printed.asked; sound = record { report = printed.is.report; given = printed.is.given; sound = printed.is.told.sound refl } }
+
 abbrev told_fault : (n number offset : ℕ) → Result (List (Rule n)) InputFault
 told_fault n number offset = Err (input.Fault number offset)
 
@@ -79,19 +95,30 @@ long_queries logic bytes long =
     let is : nat_lt queries.LONGEST_FILE (length bytes) ≡ true = grind (arith, nat_tests) in
     rw is refl
 
+abbrev report_fault : (n number offset : ℕ) → Result (Report n) InputFault
+report_fault n number offset = Err (input.Fault number offset)
+
+long_report : (logic : Logic) (bytes : List ℕ) → reports.LONGEST_REPORT < length bytes → ReportGiven logic bytes (report_fault logic.size syntax.FILE_TOO_LONG reports.LONGEST_REPORT)
+long_report logic bytes long =
+    let is : nat_lt reports.LONGEST_REPORT (length bytes) ≡ true = grind (arith, nat_tests) in
+    rw is refl
+
 -- a second file that is too long has this fault
 pub long_input : (work : Work) (file name : List ℕ) (logic : Logic) (bytes : List ℕ) → limit_of work < length bytes → HasInputFault (on_both work file name) logic bytes syntax.FILE_TOO_LONG (limit_of work)
 long_input work.Verify file name logic bytes long = long_rules logic bytes long
 long_input work.Prove file name logic bytes long = long_queries logic bytes long
+long_input work.Check file name logic bytes long = long_report logic bytes long
 
 -- the files of work on two files
 pub spec_of-on_both : (work : Work) (file name : List ℕ) → spec_of (on_both work file name) ≡ file
 spec_of-on_both work.Verify file name = refl
 spec_of-on_both work.Prove file name = refl
+spec_of-on_both work.Check file name = refl
 
 pub input_of-on_both : (work : Work) (file name : List ℕ) → input_of (on_both work file name) ≡ Some name
 input_of-on_both work.Verify file name = refl
 input_of-on_both work.Prove file name = refl
+input_of-on_both work.Check file name = refl
 
 -- the lines on rules answer the words, under the status by whether all rules are right
 pub lines_answer : (file rules : List ℕ) (files files_after : FilesState) (spec : Spec) (bytes text : List ℕ) (right : Bool) (status : Status) → files_after ≡ files → status ≡ verdict_status right → HasInput (Verify file rules) files spec bytes → IsVerdictText (logic_of spec) right bytes text → CommandAnswers (Verify file rules) files files_after status text
@@ -102,3 +129,8 @@ lines_answer file rules files files_after spec bytes text false status kept is a
 pub report_answers : (file queries : List ℕ) (files files_after : FilesState) (spec : Spec) (bytes text : List ℕ) (all_proved : Bool) (status : Status) → files_after ≡ files → status ≡ answer_status all_proved → HasInput (Prove file queries) files spec bytes → IsReportOn (logic_of spec) all_proved bytes text → CommandAnswers (Prove file queries) files files_after status text
 report_answers file queries files files_after spec bytes text true status kept is asked report = rw is (kept, (spec, bytes, asked, report))
 report_answers file queries files files_after spec bytes text false status kept is asked report = rw is (kept, (spec, bytes, asked, report))
+
+-- the verdict on a report answers the words, under the status by whether the report is accepted
+pub verdict_answers : (file report : List ℕ) (files files_after : FilesState) (spec : Spec) (bytes line : List ℕ) (accepted : Bool) (status : Status) → files_after ≡ files → status ≡ verdict_status accepted → HasInput (Check file report) files spec bytes → IsVerdictOn (logic_of spec) accepted bytes line → CommandAnswers (Check file report) files files_after status line
+verdict_answers file report files files_after spec bytes line true status kept is asked verdict = rw is (kept, (spec, bytes, asked, verdict))
+verdict_answers file report files files_after spec bytes line false status kept is asked verdict = rw is (kept, (spec, bytes, asked, verdict))

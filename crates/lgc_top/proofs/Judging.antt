@@ -18,6 +18,11 @@ use Rattle.lgc_query_trip.proofs.ReadQueries.{read_queries_writable}
 use Rattle.lgc_prove.specs.Answers.{IsAsked}
 use Rattle.lgc_prove.specs.AnswerText.{IsAnswerText}
 use Rattle.lgc_top.proofs.FewQueries.{few_queries}
+use Rattle.lgc_report.specs.declared.report.Report.{Report}
+use Rattle.lgc_report.specs.Reports.{plain_report}
+use Rattle.lgc_report_reader.specs.ReportFile.{ReportGives}
+use Rattle.lgc_check.specs.VerdictText.{IsTold}
+use Rattle.lgc_top.specs.Check.{ReportGiven, IsVerdictOn, ChecksBytes}
 use Rattle.lgc_top.specs.Prove.{QueriesGiven, IsReportOn, ReportsOnBytes}
 use Rattle.lgc_top.specs.Verify.{RulesGiven, IsVerdictText, JudgesBytes}
 
@@ -68,3 +73,28 @@ asked_of_file logic bytes asked is given fits = λ i d lt. record {
 -- and there are few of them
 pub few_of_file : (logic : Logic) (bytes : List ℕ) (asked : List Query) → queries.FileGives logic bytes (Ok asked) → length asked < 2 ^ 32
 few_of_file logic bytes asked given = few_queries logic bytes asked (file_of logic bytes asked given)
+
+-- ---- reports
+
+abbrev pub report_failed : (n : ℕ) → InputFault → Result (Report n) InputFault
+report_failed n fault = Err fault
+
+abbrev report_fault : (n number offset : ℕ) → Result (Report n) InputFault
+report_fault n number offset = Err (Fault number offset)
+
+module _ (n : ℕ) (m logic : Logic) (same : m ≡ logic) (size : m.size ≡ n) (bytes : List ℕ) where
+  pub checked : (accepted : Bool) (line : List ℕ) (report : Report n) → ReportGives n m bytes (Ok report) → IsTold m (plain_report report) accepted line → IsVerdictOn logic accepted bytes line
+  checked accepted line report given told =
+      subst (λ (l : Logic). IsVerdictOn l accepted bytes line) same
+      (subst (λ (n : ℕ). (report : Report n) → ReportGives n m bytes (Ok report) → IsTold m (plain_report report) accepted line → IsVerdictOn m accepted bytes line) size
+      (λ report given told. record { report = report; given = given; told = told })
+      report given told)
+
+  faulty_report : (number offset : ℕ) → ReportGives n m bytes (report_fault n number offset) → ReportGiven logic bytes (report_fault logic.size number offset)
+  faulty_report number offset given =
+      subst (λ (l : Logic). ReportGiven l bytes (report_fault l.size number offset)) same
+      (subst (λ (n : ℕ). ReportGives n m bytes (report_fault n number offset) → ReportGiven m bytes (report_fault m.size number offset)) size (λ given. given) given)
+
+  pub report_refused : (fault : InputFault) → Holds (ReportGives n m bytes) (report_failed n fault) → ChecksBytes logic bytes (Err fault)
+  report_refused Memory given = tt
+  report_refused (Fault number offset) given = faulty_report number offset given

@@ -19,11 +19,16 @@ use Rattle.lgc_verify.specs.Verdicts.{IsRight}
 use Rattle.lgc_prove.specs.Answers.{IsSatisfiedEverywhere}
 use Rattle.lgc_rules.proofs.Tops as rules
 use Rattle.lgc_queries.proofs.QueryFiles as queries
+use Rattle.lgc_report.specs.declared.report.Report.{Report}
+use Rattle.lgc_report.specs.Reports.{plain_report}
+use Rattle.lgc_report.specs.Valid.{IsValid}
+use Rattle.lgc_report_reader.proofs.ReportFiles as reports
 use Rattle.lgc_top.specs.declared.status.Status.{Status}
 use Rattle.lgc_top.specs.declared.status.Status.TheVariants.{Done, Refuted, Usage, BadSpec, BadInput, Rejected, ReadFault, WriteFault, Memory}
-use Rattle.lgc_top.specs.Commands.{Command, Calculus, Verify, Prove, spec_of, input_of}
+use Rattle.lgc_top.specs.Commands.{Command, Calculus, Verify, Prove, Check, spec_of, input_of}
 use Rattle.lgc_top.specs.Verify.{RulesGiven}
 use Rattle.lgc_top.specs.Prove.{QueriesGiven}
+use Rattle.lgc_top.specs.Check.{ReportGiven}
 use Rattle.lgc_top.specs.Run.{Run, Ends, Answers, FilesAnswer, CommandAnswers, WordsAnswer, Works, Puts, HasSpec, HasInput}
 use Rattle.lgc_top.specs.Means.{Tells, GivenMeans, InputMeans, LogicMeans, SpecMeans, CommandMeans, Means, IsFaultless}
 
@@ -52,6 +57,9 @@ module _ (command : Command) (files : FilesState) (status : Status) where
 abbrev is_right : (logic : Logic) → List (Rule logic.size) → Type 0
 is_right logic rules = All (IsRight logic) (map plain_rule rules)
 
+abbrev is_valid : (logic : Logic) → Report logic.size → Type 0
+is_valid logic report = IsValid logic (plain_report report)
+
 works_mean : (command : Command) (files : FilesState) (status : Status) (text : List ℕ) → Works command files status text → CommandMeans (Holds files) command status
 works_mean (Calculus file) files Done text (spec, has, calculus) = with_spec (Calculus file) files Done spec has refl
 works_mean (Calculus file) files _ text h = absurd h
@@ -67,6 +75,12 @@ works_mean (Prove file queries) files Refuted text (spec, bytes, has, report) =
     with_spec (Prove file queries) files Refuted spec has.logic (with_input (Prove file queries) files Refuted queries refl spec bytes has (QueriesGiven (logic_of spec)) (All (IsSatisfiedEverywhere (logic_of spec))) Refuted (Ok report.queries) report.given
     (inr ((λ all. let no : false ≡ true = report.answers.decided.1 all in absurd cc), refl)))
 works_mean (Prove file queries) files _ text h = absurd h
+works_mean (Check file report) files Done line (spec, bytes, has, verdict) =
+    with_spec (Check file report) files Done spec has.logic (with_input (Check file report) files Done report refl spec bytes has (ReportGiven (logic_of spec)) (is_valid (logic_of spec)) Rejected (Ok verdict.report) verdict.given (inl (verdict.told.valid.0 refl, refl)))
+works_mean (Check file report) files Rejected line (spec, bytes, has, verdict) =
+    with_spec (Check file report) files Rejected spec has.logic (with_input (Check file report) files Rejected report refl spec bytes has (ReportGiven (logic_of spec)) (is_valid (logic_of spec)) Rejected (Ok verdict.report) verdict.given
+    (inr ((λ valid. let no : false ≡ true = verdict.told.valid.1 valid in absurd cc), refl)))
+works_mean (Check file report) files _ line h = absurd h
 
 faults_mean : (command : Command) (files : FilesState) (line : List ℕ) → FilesAnswer command files BadInput line → CommandMeans (Holds files) command BadInput
 faults_mean (Calculus file) files line (spec, bytes, has, fault) = absurd fault.given
@@ -74,6 +88,8 @@ faults_mean (Verify file rules) files line (spec, bytes, has, fault) =
     with_spec (Verify file rules) files BadInput spec has.logic (with_input (Verify file rules) files BadInput rules refl spec bytes has (RulesGiven (logic_of spec)) (is_right (logic_of spec)) Rejected (Err (input.Fault fault.number fault.offset)) fault.given refl)
 faults_mean (Prove file queries) files line (spec, bytes, has, fault) =
     with_spec (Prove file queries) files BadInput spec has.logic (with_input (Prove file queries) files BadInput queries refl spec bytes has (QueriesGiven (logic_of spec)) (All (IsSatisfiedEverywhere (logic_of spec))) Refuted (Err (input.Fault fault.number fault.offset)) fault.given refl)
+faults_mean (Check file report) files line (spec, bytes, has, fault) =
+    with_spec (Check file report) files BadInput spec has.logic (with_input (Check file report) files BadInput report refl spec bytes has (ReportGiven (logic_of spec)) (is_valid (logic_of spec)) Rejected (Err (input.Fault fault.number fault.offset)) fault.given refl)
 
 answers_mean : (command : Command) (files files_after : FilesState) (status : Status) (bytes : List ℕ) → CommandAnswers command files files_after status bytes → (status ≡ ReadFault → ⊥) → CommandMeans (Holds files) command status
 answers_mean command files files_after ReadFault line h other = absurd (other refl)
@@ -111,11 +127,15 @@ module _ (files : FilesState) where
   queries_once : (logic : Logic) (bytes : List ℕ) (found also : Result (List Query) InputFault) → QueriesGiven logic bytes found → QueriesGiven logic bytes also → found ≡ also
   queries_once logic bytes found also gives given = sym (queries.file_once logic bytes found gives) ∙ queries.file_once logic bytes also given
 
+  report_once : (logic : Logic) (bytes : List ℕ) (found also : Result (Report logic.size) InputFault) → ReportGiven logic bytes found → ReportGiven logic bytes also → found ≡ also
+  report_once logic bytes found also gives given = sym (reports.report_once logic.size logic bytes found gives) ∙ reports.report_once logic.size logic bytes also given
+
   spec_once : (command : Command) (found : Result Spec SpecFault) (a b : Status) → SpecMeans (Holds files) command found a → SpecMeans (Tells files) command found b → a ≡ b
   spec_once command (Err fault) a b p q = p ∙ sym q
   spec_once (Calculus file) (Ok spec) a b p q = p ∙ sym q
   spec_once (Verify file rules) (Ok spec) a b p q = input_once rules (RulesGiven (logic_of spec)) (is_right (logic_of spec)) Rejected (rules_once (logic_of spec)) a b p q
   spec_once (Prove file queries) (Ok spec) a b p q = input_once queries (QueriesGiven (logic_of spec)) (All (IsSatisfiedEverywhere (logic_of spec))) Refuted (queries_once (logic_of spec)) a b p q
+  spec_once (Check file report) (Ok spec) a b p q = input_once report (ReportGiven (logic_of spec)) (is_valid (logic_of spec)) Rejected (report_once (logic_of spec)) a b p q
 
   means_once : (command : Command) (a b : Status) → CommandMeans (Holds files) command a → CommandMeans (Tells files) command b → a ≡ b
   means_once command a b (bytes, found, held, gives, p) (other, also, told, given, q) =

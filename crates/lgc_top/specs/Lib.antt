@@ -2,6 +2,7 @@ pub mod FaultLine
 pub mod Calculus
 pub mod Verify
 pub mod Prove
+pub mod Check
 pub mod Commands
 pub mod Run
 pub mod Means

@@ -15,7 +15,8 @@ use Rattle.lgc_top.specs.FaultLine.{fault_line, input_line, read_line}
 use Rattle.lgc_top.specs.Calculus.{IsCalculusText}
 use Rattle.lgc_top.specs.Verify.{RulesGiven, IsVerdictText}
 use Rattle.lgc_top.specs.Prove.{QueriesGiven, IsReportOn}
-use Rattle.lgc_top.specs.Commands.{Command, Calculus, Verify, Prove, spec_of, input_of, command_of}
+use Rattle.lgc_top.specs.Check.{ReportGiven, IsVerdictOn, IsSoundOn}
+use Rattle.lgc_top.specs.Commands.{Command, Calculus, Verify, Prove, Check, spec_of, input_of, command_of}
 
 -- a run: its words, and its files and sinks before and after it
 pub record Run : Type 0 where
@@ -63,6 +64,7 @@ abbrev pub HasInputFault : Command → Logic → List ℕ → ℕ → ℕ → Ty
 HasInputFault (Calculus _) logic bytes number offset = ⊥
 HasInputFault (Verify _ _) logic bytes number offset = RulesGiven logic bytes (Err (input.Fault number offset))
 HasInputFault (Prove _ _) logic bytes number offset = QueriesGiven logic bytes (Err (input.Fault number offset))
+HasInputFault (Check _ _) logic bytes number offset = ReportGiven logic bytes (Err (input.Fault number offset))
 
 -- the same, and the line tells it
 pub record IsInputFaultOf (command : Command) (logic : Logic) (bytes line : List ℕ) : Type 0 where
@@ -84,6 +86,8 @@ Works (Verify file rules) files Done text = WorksOn (Verify file rules) files (�
 Works (Verify file rules) files Rejected text = WorksOn (Verify file rules) files (λ logic bytes. IsVerdictText logic false bytes text)
 Works (Prove file queries) files Done text = WorksOn (Prove file queries) files (λ logic bytes. IsReportOn logic true bytes text)
 Works (Prove file queries) files Refuted text = WorksOn (Prove file queries) files (λ logic bytes. IsReportOn logic false bytes text)
+Works (Check file report) files Done line = WorksOn (Check file report) files (λ logic bytes. IsVerdictOn logic true bytes line)
+Works (Check file report) files Rejected line = WorksOn (Check file report) files (λ logic bytes. IsVerdictOn logic false bytes line)
 Works command files status text = ⊥
 
 -- each status that comes of what the files hold, with its cause, and with the bytes that are put under it
@@ -143,6 +147,17 @@ PrintsVerdicts run file rules right = PrintsOn run (Verify file rules) (λ logic
 -- it is that of a report that answers the queries, and `all_proved` tells whether all of them are proved
 abbrev pub PrintsReport : Run → List ℕ → List ℕ → Bool → Type 0
 PrintsReport run file queries all_proved = PrintsOn run (Prove file queries) (λ logic bytes text. IsReportOn logic all_proved bytes text)
+
+-- it is the line that tells the verdict on the report, and `accepted` tells whether the report is valid
+abbrev pub PrintsVerdictOn : Run → List ℕ → List ℕ → Bool → Type 0
+PrintsVerdictOn run file report accepted = PrintsOn run (Check file report) (λ logic bytes line. IsVerdictOn logic accepted bytes line)
+
+-- the second file has a report, which is sound for the logic of the first
+pub record IsSoundFor (run : Run) (file report : List ℕ) : Type 0 where
+  pub spec : Spec
+  pub bytes : List ℕ
+  pub asked : HasInput (Check file report) run.files spec bytes
+  pub sound : IsSoundOn (logic_of spec) bytes
 
 -- ---- numbers, and single puts
 

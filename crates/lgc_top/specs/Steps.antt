@@ -4,9 +4,10 @@ use Rattle.lgc_io.specs.Files.{FilesState, FailsAt}
 use Rattle.lgc_top.specs.declared.command.Command.{Command}
 use Rattle.lgc_top.specs.declared.command.Command.TheVariants.{Calculus, OnBoth}
 use Rattle.lgc_top.specs.declared.command.Work.{Work}
-use Rattle.lgc_top.specs.declared.command.Work.TheVariants.{Verify, Prove}
+use Rattle.lgc_top.specs.declared.command.Work.TheVariants.{Verify, Prove, Check}
 use Rattle.lgc_rules.specs.declared.file.TheConstants as rules
 use Rattle.lgc_queries.specs.declared.TheConstants as queries
+use Rattle.lgc_report_reader.specs.declared.report.TheConstants as report
 use Rattle.lgc_top.specs.declared.status.Status.{Status}
 use Rattle.lgc_top.specs.declared.status.Status.TheVariants.{Done, Refuted, Rejected, ReadFault}
 use Rattle.lgc_top.specs.declared.answer.Answer.{Answer}
@@ -20,11 +21,13 @@ use Rattle.lgc_top.specs.Run.{WordsAnswer}
 abbrev pub on_both : Work → List ℕ → List ℕ → words.Command
 on_both Verify spec rules = words.Verify spec rules
 on_both Prove spec queries = words.Prove spec queries
+on_both Check spec report = words.Check spec report
 
 -- the greatest length of the second file
 abbrev pub limit_of : Work → ℕ
 limit_of Verify = rules.LONGEST_FILE
 limit_of Prove = queries.LONGEST_FILE
+limit_of Check = report.LONGEST_REPORT
 
 -- the command that a value stands for
 abbrev pub asked : Command → words.Command
@@ -54,7 +57,7 @@ abbrev pub ReadStops : FilesState → FilesState → List ℕ → Stop → Type 
 ReadStops files files_after file (Refused answer) = FailsAt files files_after file × (answer.status ≡ ReadFault) × (answer.bytes.items ≡ read_line file)
 ReadStops files files_after file Memory = Unit {0}
 
--- the status of verdicts on rules, by whether all of them are right
+-- the status of verdicts on rules, by whether all of them are right, and of the verdict on a report, by whether it is accepted
 abbrev pub verdict_status : Bool → Status
 verdict_status right = if right then Done else Rejected
 

@@ -7,14 +7,14 @@ ghost use Rattle.lgc_spec.specs.Logics.{logic_of};
 ghost use Rattle.lgc_syntax.specs.declared.fault.TheConstants.{FILE_TOO_LONG};
 ghost use Rattle.lgc_top.specs.FaultLine.{fault_line, input_line};
 ghost use Rattle.lgc_top.specs.Commands as commands;
-ghost use Rattle.lgc_top.specs.Commands.{Calculus, Verify, Prove, spec_of, input_of, command_of};
+ghost use Rattle.lgc_top.specs.Commands.{Calculus, Verify, Prove, Check, spec_of, input_of, command_of};
 ghost use Rattle.lgc_top.specs.Run.{HasSpec, HasInput, HasInputFault};
 ghost use Rattle.lgc_top.specs.Steps.{on_both, limit_of, Answered, Stops, ReadStops, Refuses, verdict_status, answer_status};
 
 use crate::command::{Command, Work, command_of};
 use crate::fault_line::{fault_line, input_line, read_line};
 use crate::status::Status;
-use crate::work::{calculus_of, report_of, verdicts_of};
+use crate::work::{calculus_of, report_of, verdict_of, verdicts_of};
 use lgc_io::{FileFault, Files, Reading};
 use lgc_spec::{Kept, Spec, SpecFault, read_spec};
 use lgc_syntax::InputFault;
@@ -217,6 +217,22 @@ fn report(alloc: Global, spec: &Spec, bytes: &[u8]) -> Result<Answer, Stop>
     }
 }
 
+fn verdict(alloc: Global, spec: &Spec, bytes: &[u8]) -> Result<Answer, Stop>
+    requires logic { IsLogic (logic_of spec.now) }
+    requires designated { spec.now.designated < 2 ^ length spec.now.values }
+    ensures { (file report : List ℕ) (files files_after : FilesState) → files_after ≡ files → HasInput (Check file report) files spec.now bytes.now →
+        Answered (Some (Check file report)) files files_after result }
+{
+    match verdict_of(alloc, spec, bytes) {
+        Ok(told) => Ok(Answer {
+            status: verdict_status(told.accepted),
+            bytes: told.line,
+        }),
+        Err(InputFault::Fault { number, offset }) => Err(bad_input(alloc, number, offset)),
+        Err(InputFault::Memory) => Err(Stop::Memory),
+    }
+}
+
 // ---- commands on two files
 
 // The greatest length of the second file.
@@ -226,6 +242,7 @@ fn limit_of(work: Work) -> u32
     match work {
         Work::Verify => lgc_rules::LONGEST_FILE as u32,
         Work::Prove => lgc_queries::LONGEST_FILE as u32,
+        Work::Check => lgc_report_reader::LONGEST_REPORT,
     }
 }
 
@@ -239,6 +256,7 @@ fn work_on(alloc: Global, spec: &Spec, bytes: &[u8], work: Work) -> Result<Answe
     match work {
         Work::Verify => verdicts(alloc, spec, bytes),
         Work::Prove => report(alloc, spec, bytes),
+        Work::Check => verdict(alloc, spec, bytes),
     }
 }
 

@@ -11,6 +11,8 @@ pub(crate) enum Work {
     Verify,
     /// Answers to its queries.
     Prove,
+    /// The verdict on its report.
+    Check,
 }
 
 /// What the words ask for.
@@ -44,6 +46,7 @@ fn work_of(word: &str) -> Option<Work>
     match word {
         "verify" => Some(Work::Verify),
         "prove" => Some(Work::Prove),
+        "check" => Some(Work::Check),
         _ => None,
     }
 }

@@ -2,8 +2,8 @@
 ghost use Rattle.std.specs.Prelude.{◌≡◌, ◌⊎◌, ℕ, List, Some, map, true, false, string_bytes};
 ghost use Rattle.lgc_io.specs.Files.{FilesState};
 ghost use Rattle.lgc_top.specs.declared.status.Status.{Status};
-ghost use Rattle.lgc_top.specs.Commands.{Calculus, Verify, Prove, command_of};
-ghost use Rattle.lgc_top.specs.Run.{run_of, Answers, Ends, PrintsCalculus, PrintsVerdicts, PrintsReport, AfterPut};
+ghost use Rattle.lgc_top.specs.Commands.{Calculus, Verify, Prove, Check, command_of};
+ghost use Rattle.lgc_top.specs.Run.{run_of, Answers, Ends, PrintsCalculus, PrintsVerdicts, PrintsReport, PrintsVerdictOn, IsSoundFor, AfterPut};
 ghost use Rattle.lgc_top.specs.Means.{IsFaultless, Means};
 
 use crate::answer::{Answer, Stop, answer_to};
@@ -87,6 +87,18 @@ pub fn run_multlog<F: Files, O: Sink, E: Sink>(
         (file queries : List ℕ) → command_of (map string_bytes words.now) ≡ Some (Prove file queries) → result ≡ Status.Done → PrintsReport run file queries true }
     ensures refuted { let run = run_of (map string_bytes words.now) (F.state files.old) (F.state files.new) (O.state out.old) (O.state out.new) (E.state err.old) (E.state err.new) in
         (file queries : List ℕ) → command_of (map string_bytes words.now) ≡ Some (Prove file queries) → result ≡ Status.Refuted → PrintsReport run file queries false }
+
+    // With `Done` or `Rejected` the output of `check` gained the verdict on a report: it is accepted exactly if it is valid, and else the first
+    // item that has a cause is told, with its first cause.
+    ensures accepted { let run = run_of (map string_bytes words.now) (F.state files.old) (F.state files.new) (O.state out.old) (O.state out.new) (E.state err.old) (E.state err.new) in
+        (file report : List ℕ) → command_of (map string_bytes words.now) ≡ Some (Check file report) → result ≡ Status.Done → PrintsVerdictOn run file report true }
+    ensures invalid { let run = run_of (map string_bytes words.now) (F.state files.old) (F.state files.new) (O.state out.old) (O.state out.new) (E.state err.old) (E.state err.new) in
+        (file report : List ℕ) → command_of (map string_bytes words.now) ≡ Some (Check file report) → result ≡ Status.Rejected → PrintsVerdictOn run file report false }
+
+    // What `check` accepts is sound: each line that doesn't rest on a pending one holds in every finite structure of the logic, under every
+    // assignment, and so does each sequent that is claimed and each query that is called proved.
+    ensures sound { let run = run_of (map string_bytes words.now) (F.state files.old) (F.state files.new) (O.state out.old) (O.state out.new) (E.state err.old) (E.state err.new) in
+        (file report : List ℕ) → command_of (map string_bytes words.now) ≡ Some (Check file report) → result ≡ Status.Done → IsSoundFor run file report }
 
     // Where the files are told, the status is the one that they mean, unless something fails or memory runs out: `BadSpec` for a
     // fault of the specification, then `BadInput` for one of the second file, and else that of the work.

@@ -15,7 +15,7 @@ pub enum Status {
     BadSpec,
     /// The second file has a fault.
     BadInput,
-    /// The command was carried out, and some rule isn't right.
+    /// The command was carried out, and some rule isn't right, or the report isn't valid.
     Rejected,
     /// A file couldn't be read.
     ReadFault,

@@ -5,11 +5,14 @@ ghost use Rattle.lgc_spec.specs.Logics.{logic_of};
 ghost use Rattle.lgc_top.specs.Calculus.{IsCalculusText};
 ghost use Rattle.lgc_top.specs.Verify.{JudgesBytes};
 ghost use Rattle.lgc_top.specs.Prove.{ReportsOnBytes};
+ghost use Rattle.lgc_top.specs.Check.{ChecksBytes};
 
 use lgc_calculus::derive_calculus;
+use lgc_check::{Told, tell_verdict};
 use lgc_print::calculus_text;
 use lgc_prove::{Answered, prove_queries};
 use lgc_queries::read_queries;
+use lgc_report_reader::read_report;
 use lgc_rules::read_rules;
 use lgc_spec::{Spec, matrix_of};
 use lgc_syntax::InputFault;
@@ -50,6 +53,19 @@ fn report<const N: usize>(alloc: Global, spec: &Spec, bytes: &[u8]) -> Result<An
     let m: Matrix<N> = matrix_of(alloc, spec)?;
     match read_queries(alloc, &m, bytes) {
         Ok(queries) => Ok(prove_queries(alloc, &m, queries)?),
+        Err(fault) => Err(fault),
+    }
+}
+
+fn verdict<const N: usize>(alloc: Global, spec: &Spec, bytes: &[u8]) -> Result<Told, InputFault>
+    requires size { length spec.now.values ≡ N }
+    requires logic { IsLogic (logic_of spec.now) }
+    requires designated { spec.now.designated < 2 ^ N }
+    ensures { ChecksBytes (logic_of spec.now) bytes.now result }
+{
+    let m: Matrix<N> = matrix_of(alloc, spec)?;
+    match read_report(alloc, &m, bytes) {
+        Ok(report) => Ok(tell_verdict(alloc, &m, &report)?),
         Err(fault) => Err(fault),
     }
 }
@@ -103,4 +119,14 @@ pub(crate) fn report_of(alloc: Global, spec: &Spec, bytes: &[u8]) -> Result<Answ
 {
     let size = spec.values.len();
     at_size!(size, report(alloc, spec, bytes))
+}
+
+/// The line that tells the verdict on a report for the specification's logic, and whether the report is accepted; or its first fault.
+pub(crate) fn verdict_of(alloc: Global, spec: &Spec, bytes: &[u8]) -> Result<Told, InputFault>
+    requires logic { IsLogic (logic_of spec.now) }
+    requires designated { spec.now.designated < 2 ^ length spec.now.values }
+    ensures { ChecksBytes (logic_of spec.now) bytes.now result }
+{
+    let size = spec.values.len();
+    at_size!(size, verdict(alloc, spec, bytes))
 }

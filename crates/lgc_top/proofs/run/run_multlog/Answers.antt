@@ -1,4 +1,4 @@
-use Rattle.lgc_top.proofs.Endings.{prints_calculus, prints_right, prints_rejected, prints_proved, prints_refuted}
+use Rattle.lgc_top.proofs.Endings.{prints_calculus, prints_right, prints_rejected, prints_proved, prints_refuted, prints_accepted, prints_invalid, sound_accepted}
 use Rattle.lgc_top.proofs.Meanings.{completes}
 use Rattle.lgc_top.proofs.run.run_multlog.Goals as goal
 
@@ -16,6 +16,15 @@ returns-clause-proved g c file queries = prints_proved _ file queries _ c.run_wo
 
 pub returns-clause-refuted : goal.returns-clause-refuted
 returns-clause-refuted g c file queries = prints_refuted _ file queries _ c.run_words.ensures
+
+pub returns-clause-accepted : goal.returns-clause-accepted
+returns-clause-accepted g c file report = prints_accepted _ file report _ c.run_words.ensures
+
+pub returns-clause-invalid : goal.returns-clause-invalid
+returns-clause-invalid g c file report = prints_invalid _ file report _ c.run_words.ensures
+
+pub returns-clause-sound : goal.returns-clause-sound
+returns-clause-sound g c file report = sound_accepted _ file report _ c.run_words.ensures
 
 pub returns-clause-complete : goal.returns-clause-complete
 returns-clause-complete g c meant means none = completes _ meant means none _ c.run_words.ensures
