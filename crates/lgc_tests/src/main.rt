@@ -33,7 +33,7 @@ mod tests;
 use std::{fs, io};
 use table::Table;
 
-const TABLES: [&str; 8] = [
+const TABLES: [&str; 10] = [
     "commands.txt",
     "calculus.txt",
     "spec_faults.txt",
@@ -42,6 +42,8 @@ const TABLES: [&str; 8] = [
     "formulas.txt",
     "queries.txt",
     "prove.txt",
+    "check.txt",
+    "report_faults.txt",
 ];
 
 // Makes the runs of the table in this file.
