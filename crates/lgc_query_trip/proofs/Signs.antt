@@ -13,14 +13,14 @@ use Rattle.lgc_formula_trip.proofs.Tokens.{SpelledAs, by_class, cut_lower}
 
 -- ---- blanks
 
-cut_before_blank : (F : List ℕ → Type 0) (x : List ℕ) (lexemes : List Lexeme) → ((rest : List ℕ) → F (32 ∷ rest)) → Cut F x lexemes → Cut Anything (x ++ 32 ∷ []) lexemes
+pub cut_before_blank : (F : List ℕ → Type 0) (x : List ℕ) (lexemes : List Lexeme) → ((rest : List ℕ) → F (32 ∷ rest)) → Cut F x lexemes → Cut Anything (x ++ 32 ∷ []) lexemes
 cut_before_blank F x lexemes follows p = record {
   cuts = λ rest more f l.
       let begins = p.cuts (32 ∷ rest) more (follows rest) (lex_space rest more l) in
       record { words = begins.words; seen = begins.seen; lexes = subst (λ t. Lexes t (begins.words ++ more)) (sym (append_assoc x (32 ∷ []) rest)) begins.lexes };
 }
 
-cut_behind_blank : (F : List ℕ → Type 0) (x : List ℕ) (lexemes : List Lexeme) → Cut F x lexemes → Cut F (32 ∷ x) lexemes
+pub cut_behind_blank : (F : List ℕ → Type 0) (x : List ℕ) (lexemes : List Lexeme) → Cut F x lexemes → Cut F (32 ∷ x) lexemes
 cut_behind_blank F x lexemes p = record {
   cuts = λ rest more f l. let begins = p.cuts rest more f l in record { words = begins.words; seen = begins.seen; lexes = lex_space (x ++ rest) (begins.words ++ more) begins.lexes };
 }

@@ -104,7 +104,7 @@ module _ (logic : Logic) (is : IsLogic logic) where
       let below : v < length logic.names = omega (arith, is.named) in
       is.plain v [] below
 
-  value_written : (v : ℕ) → v < logic.size → Written SpelledAs EndsWord (Value logic) v (text v)
+  pub value_written : (v : ℕ) → v < logic.size → Written SpelledAs EndsWord (Value logic) v (text v)
   value_written v lt =
       let name = name_of logic.names v in
       written_one SpelledAs EndsWord (value_of logic) (Allowed is_value (λ t. fault_if (names_no_value logic t) UNKNOWN_VALUE)) v (value_lexeme name) (text v) (cut_value name (plain_name v lt))

@@ -81,7 +81,7 @@ kind_of_decimal n lt = kind_of_digits (decimal n) (writes_decimal n lt).are_digi
 
 -- ---- as a number
 
-no_leading_zero : (n : ℕ) → n < 2 ^ 64 → has_leading_zero (decimal n) ≡ false
+pub no_leading_zero : (n : ℕ) → n < 2 ^ 64 → has_leading_zero (decimal n) ≡ false
 no_leading_zero zero lt = rw (decimal_digit 0 (omega arith)) refl
 no_leading_zero (suc n) lt =
     let high : 48 < get_or (decimal (suc n)) 0 0 = first_decimal (suc n) (omega arith) lt in

@@ -113,7 +113,7 @@ module _ (n : ℕ) (logic : Logic) (is : IsLogic logic) (size : length logic.nam
       (derive_skip _ _ tree (sign 93) (sign 46 ∷ []) is_close_square
       (derive_skip _ (Nothing tree) tree (sign 46) [] is_dot (derive_nothing tree)))))))
 
-  of_symbol_derives : (x : Rule n) → Fits logic (plain_rule x) → HasSets n (plain_rule x) → Derives (Either (OfOperator n logic) (OfQuantifier n logic)) x (head_words logic (plain_rule x).head ++ body_words logic.names (plain_rule x))
+  pub of_symbol_derives : (x : Rule n) → Fits logic (plain_rule x) → HasSets n (plain_rule x) → Derives (Either (OfOperator n logic) (OfQuantifier n logic)) x (head_words logic (plain_rule x).head ++ body_words logic.names (plain_rule x))
   of_symbol_derives (rule.Operator r) fits sets =
       derive_left (OfOperator n logic) (OfQuantifier n logic) (rule.Operator r) (head_words logic (operator r.op) ++ body_words logic.names (of_operator r))
       (derive_then (OperatorHead logic) (λ op. Body n logic (Clause n logic (operator_at logic op).arity) (operator_rule n op)) r.op (rule.Operator r) (head_words logic (operator r.op)) (body_words logic.names (of_operator r)) (operator_head_derives r.op fits.known)
@@ -167,7 +167,7 @@ module _ (n : ℕ) (logic : Logic) (is : IsLogic logic) (size : length logic.nam
   clauses_printable (operator op) clauses fits = each_gives (IsClauseOf logic (operator op)) (IsClausePrintable (operator op)) (λ s e. let narrow = (operator_is op fits.known).narrow in omega arith) clauses fits.formed
   clauses_printable (quantifier q) clauses fits = each_gives (IsClauseOf logic (quantifier q)) (IsClausePrintable (quantifier q)) (λ s e. good_members (drop 1 s) e.1) clauses fits.formed
 
-  printable : (k : ℕ) (r : PlainRule) → k < 2 ^ 32 → Fits logic r → HasSets n r → IsPrintable logic k r
+  pub printable : (k : ℕ) (r : PlainRule) → k < 2 ^ 32 → Fits logic r → HasSets n r → IsPrintable logic k r
   printable k r small fits sets =
       let at_no_sign : Fits logic (record { head = r.head; sign = []; clauses = r.clauses }) = record { known = fits.known; formed = fits.formed } in
       record {

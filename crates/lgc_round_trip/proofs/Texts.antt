@@ -213,7 +213,7 @@ regroup a b c d e f g h i = simp append_assoc
 closed : (clauses : List ℕ) → codes ": [" ++ (clauses ++ codes "].\n") ≡ codes ": " ++ (((codes "[" ++ clauses) ++ codes "]") ++ codes ".\n")
 closed clauses = ap (λ t. codes ": [" ++ t) (sym (append_assoc clauses (codes "]") (codes ".\n")))
 
-rule_prints_as : (logic : Logic) (number : ℕ) (rule : PlainRule) → All IsPlainName logic.names → IsPrintable logic number rule → Prints Starts (rule_text logic number rule) (rule_words logic number rule)
+pub rule_prints_as : (logic : Logic) (number : ℕ) (rule : PlainRule) → All IsPlainName logic.names → IsPrintable logic number rule → Prints Starts (rule_text logic number rule) (rule_words logic number rule)
 unfolding rule_text clauses_text
 rule_prints_as logic number rule plain_names p =
     subst (λ t. Prints Starts t (rule_words logic number rule))

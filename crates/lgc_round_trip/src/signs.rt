@@ -54,6 +54,23 @@ fn see_quantifier_clauses<const N: usize>(clauses: &[QClause<N>])
     }
 }
 
+/// Nothing is done. The clauses tell what is true of the sets of each rule: they are rising lists of truth values.
+pub fn see_sets_of_rule<const N: usize>(rule: &Rule<N>)
+    ensures sign { IsSet N (plain_rule rule.now).sign }
+    ensures clauses { All (λ sets. All (IsSet N) sets) (plain_rule rule.now).clauses }
+{
+    match rule {
+        Rule::Operator(rule) => {
+            has_members(rule.sign);
+            see_clauses(rule.clauses.items());
+        }
+        Rule::Quantifier(rule) => {
+            has_members(rule.sign);
+            see_quantifier_clauses(rule.clauses.items());
+        }
+    }
+}
+
 fn has_sign<const N: usize>(rule: &Rule<N>) -> bool
     ensures { IsTrue result ↔ HasSets N (plain_rule rule.now) }
 {
