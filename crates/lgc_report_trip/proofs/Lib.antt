@@ -1,0 +1,13 @@
+pub mod Ahead
+pub mod Printed
+pub mod Endings
+pub mod Keywords
+pub mod Numbers
+pub mod RowTexts
+pub mod SequentTexts
+pub mod LineTexts
+pub mod Beginnings
+pub mod ClaimTexts
+pub mod RuleTexts
+pub mod ReportTexts
+pub mod Shallow

@@ -1,0 +1,2 @@
+pub mod ReportReadBack
+pub mod WellFormed
