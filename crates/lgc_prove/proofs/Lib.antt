@@ -9,3 +9,4 @@ pub mod Parts
 pub mod WritableLaws
 pub mod UseLaws
 pub mod ByUseLaws
+pub mod ReadBack

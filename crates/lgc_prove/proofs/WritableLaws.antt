@@ -1,19 +1,19 @@
 -- A report that answers queries can be written and read back.
-use Rattle.std.proofs.Common.{◌≡◌, ◌≢◌, ◌<◌, ◌≤◌, ◌+◌, ◌^◌, ◌&&◌, ℕ, Bool, true, false, List, [], ◌∷◌, ◌++◌, map, length, get_or, refl, sym, ap, subst, ◌∙◌, arith}
+use Rattle.std.proofs.Common.{◌≡◌, ◌≢◌, ◌≤◌, ◌+◌, ◌&&◌, ℕ, Bool, true, false, List, [], ◌∷◌, ◌++◌, map, length, get_or, refl, sym, ap, subst, ◌∙◌, arith}
 use Rattle.std.specs.Prelude.{◌↔◌, All, IsTrue}
 use Rattle.std.specs.Bool.{MatchBool}
-use Rattle.std.specs.List.{AllZip, list_all, list_any, flat_map}
+use Rattle.std.specs.List.{AllZip, list_all, list_any}
 use Rattle.std.proofs.lemmas.Bool.{and_parts, true≢false}
-use Rattle.std.proofs.lemmas.List.Elements.{All-append, All-cons, All-head, All-tail, All-nil, All-weaker, All-map}
+use Rattle.std.proofs.lemmas.List.Elements.{All-cons, All-head, All-tail, All-nil, All-weaker, All-map}
 use Rattle.std.proofs.lemmas.List.Folds.{list_any_at}
 use Rattle.std.proofs.lemmas.Slice.Zip.{AllZip-long}
 use Rattle.lgc_values.specs.Values.{IsSize, has}
 use Rattle.lgc_values.specs.Logic.{Logic}
 use Rattle.lgc_clauses.specs.Rules.{Head, operator, quantifier, PlainRule}
-use Rattle.lgc_syntax.specs.declared.formula.Formula.{Formula, Atom, Op, Quant}
+use Rattle.lgc_syntax.specs.declared.formula.Formula.{Formula}
 use Rattle.lgc_syntax.specs.declared.formula.Formula.TheVariants.{outs-Atom, outs-Op}
 use Rattle.lgc_syntax.specs.Equality.{same_formula}
-use Rattle.lgc_syntax.specs.Sizes.{has_quantifier, depth}
+use Rattle.lgc_syntax.specs.Sizes.{has_quantifier}
 use Rattle.lgc_syntax.proofs.EqualityLaws.{same_formula-Decides}
 use Rattle.lgc_syntax.proofs.Induction.{formula_induction}
 use Rattle.lgc_syntax.proofs.SizeLaws.{has_quantifier-Quant}
@@ -26,11 +26,11 @@ use Rattle.lgc_values.proofs.Digits.{power_positive}
 use Rattle.lgc_formulas.specs.declared.formula.TheConstants.{MOST_NODES}
 use Rattle.lgc_formulas.specs.FormulaTexts.{text_setting}
 use Rattle.lgc_formulas.specs.Writable.{IsWritableTerm}
-use Rattle.lgc_query_trip.proofs.Subformulas.{query_subformula_writable, formulas_writable}
+use Rattle.lgc_query_trip.proofs.Subformulas.{query_subformula_writable}
 use Rattle.lgc_sequents.specs.Signed.{SignedFormula}
 use Rattle.lgc_sequents.specs.Sequents.{sign_in}
 use Rattle.lgc_sequents.specs.Lines as lines
-use Rattle.lgc_sequents.specs.Lines.{PlainLine, premises_of}
+use Rattle.lgc_sequents.specs.Lines.{PlainLine}
 use Rattle.lgc_sequents.specs.Steps.{compound_layer, is_compound_of, term_count, IsPremise, Premise, premise_at, IsReasonFor, AreSteps}
 use Rattle.lgc_sequents.specs.declared.line.Cited.{Cited}
 use Rattle.lgc_sequents.specs.declared.line.Reason.{Reason}
@@ -38,7 +38,7 @@ use Rattle.lgc_sequents.specs.declared.line.Reason.TheVariants.{Axiom, Pending, 
 use Rattle.lgc_sequents.proofs.RestLaws.{All-at_position}
 use Rattle.lgc_report.specs.declared.report.Evidence.{Evidence}
 use Rattle.lgc_report.specs.declared.report.Evidence.TheVariants.{Proved, Refuted, Unfinished}
-use Rattle.lgc_report.specs.Reports.{PlainNumbered, PlainClaim, answer, holds, PlainReport, FitsRule, formulas_of_claim, formulas_of_report}
+use Rattle.lgc_report.specs.Reports.{PlainNumbered, PlainClaim, answer, holds, PlainReport, FitsRule}
 use Rattle.lgc_report.specs.Valid.{IsIncludedAt, CitesGoals, IsEvidence, IsValidClaim}
 use Rattle.lgc_report.specs.Writable.{IsReadable, IsWritableLine, IsWritableEvidence, IsWritableClaim, IsWritableReport}
 use Rattle.lgc_proofs.specs.Reasons.{IsPlainReason}
@@ -162,28 +162,6 @@ answers_writable logic asked report size are answers = record {
   lines = lines_writable logic asked are (map (λ numbered. numbered.rule) report.rules) (All-map (FitsRule logic) (λ (numbered : PlainNumbered). numbered.rule) report.rules answers.fits.rules) logic.size [] report.lines answers.valid.steps answers.plain answers.parts;
   claims = claims_writable logic size report.lines asked are report.claims answers.claims answers.valid.claims;
 }
-
--- its formulas are shallow
-readable_shallow : (logic : Logic) (fs : List Formula) → All (IsReadable logic) fs → All (λ f. depth f < 2 ^ 32) fs
-readable_shallow logic fs all = All-weaker (IsReadable logic) (λ f. depth f < 2 ^ 32) (λ f readable. omega (arith, readable.shallow)) fs all
-
-claim_readable : (logic : Logic) (claim : PlainClaim) → IsWritableClaim logic claim → All (IsReadable logic) (formulas_of_claim claim)
-claim_readable logic (answer number query (Proved cited)) (query_is, evidence) = All-append (IsReadable logic) (formulas_of query) [] (formulas_writable (text_setting logic) MOST_NODES query query_is) (All-nil (IsReadable logic))
-claim_readable logic (answer number query (Unfinished cited)) (query_is, evidence) = All-append (IsReadable logic) (formulas_of query) [] (formulas_writable (text_setting logic) MOST_NODES query query_is) (All-nil (IsReadable logic))
-claim_readable logic (answer number query (Refuted entries)) (query_is, evidence) =
-    All-append (IsReadable logic) (formulas_of query) (map (λ entry. entry.0) entries) (formulas_writable (text_setting logic) MOST_NODES query query_is) (All-map (IsReadable logic) (λ (entry : Formula × ℕ). entry.0) entries evidence)
-claim_readable logic (holds number sequent line) (some, all) = All-map (IsReadable logic) (λ (item : SignedFormula). item.formula) sequent all
-
-each_readable : {X : Type 0} (logic : Logic) (P : X → Type 0) (formulas : X → List Formula) → ((x : X) → P x → All (IsReadable logic) (formulas x)) → (xs : List X) → All P xs → All (IsReadable logic) (flat_map formulas xs)
-each_readable logic P formulas each [] all = All-nil (IsReadable logic)
-each_readable logic P formulas each (x ∷ xs) all = All-append (IsReadable logic) (formulas x) (flat_map formulas xs) (each x (All-head P x xs all)) (each_readable logic P formulas each xs (All-tail P x xs all))
-
-pub writable_shallow : (logic : Logic) (report : PlainReport) → IsWritableReport logic report → All (λ f. depth f < 2 ^ 32) (formulas_of_report report)
-writable_shallow logic report writable =
-    readable_shallow logic (formulas_of_report report)
-    (All-append (IsReadable logic) (flat_map lines.formulas_of report.lines) (flat_map formulas_of_claim report.claims)
-    (each_readable logic (IsWritableLine logic) lines.formulas_of (λ line is. is.formulas) report.lines writable.lines)
-    (each_readable logic (IsWritableClaim logic) formulas_of_claim (claim_readable logic) report.claims writable.claims))
 
 -- ---- whether all are proved
 

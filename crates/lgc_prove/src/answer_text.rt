@@ -7,7 +7,8 @@ ghost use Rattle.lgc_prove.specs.AnswerText.{is_proved, IsAnswerText};
 
 use crate::answer_queries;
 use lgc_meaning::Query;
-use lgc_report::{Claim, Evidence, write_report};
+use lgc_report::{Claim, Evidence};
+use lgc_report_trip::text_of_report;
 use lgc_values::{List, Matrix};
 use std::alloc::{AllocError, Global};
 
@@ -55,7 +56,7 @@ pub fn prove_queries<const N: usize>(
 {
     let _operators = m.operators();
     let report = answer_queries(alloc, m, queries)?;
-    let text = write_report(alloc, m, &report)?;
+    let text = text_of_report(alloc, m, &report)?;
     let all_proved = are_proved(report.claims.items());
     Ok(Answered { text, all_proved })
 }
