@@ -1,38 +1,21 @@
 -- Sequents over numbers are the same where their keys are.
-use Rattle.std.proofs.Common.{◌≡◌, ℕ, ◌*◌, ◌%◌, ◌^◌, ◌<◌, ◌≤◌, ◌==◌, ◌&&◌, ◌||◌, Bool, true, List, [], ◌∷◌, refl, sym, ap, ◌∙◌, arith}
-use Rattle.std.specs.Prelude.{nat_lt, bit_or, All}
-use Rattle.std.proofs.lemmas.Bool.{or_left, or_right, eq-eqb}
-use Rattle.std.proofs.lemmas.Bool.Decides.{nat_tests}
+use Rattle.std.proofs.Common.{◌≡◌, ℕ, ◌≤◌, List, [], ◌∷◌, refl, sym, ap, ◌∙◌}
+use Rattle.std.specs.Prelude.{All}
 use Rattle.std.proofs.lemmas.List.Elements.{All-head, All-tail}
-use Rattle.std.proofs.Math.Pow.{pow_pos}
 use Rattle.lgc_values.specs.declared.TheConstants.{MOST_VALUES}
-use Rattle.lgc_values.specs.Values.{values_where, has, mask_of, members_of}
+use Rattle.lgc_values.specs.Values.{mask_of, members_of}
 use Rattle.lgc_values.specs.Masks.{mask_of-members_of}
-use Rattle.lgc_values.proofs.ValueLaws.{values_where-alike, has-values_where, has-members_of, empty_law, with_law, with_below}
+use Rattle.lgc_values.proofs.ValueLaws.{mask_for}
 use Rattle.lgc_sequents.specs.Sequents.{IsSign}
 use Rattle.lgc_packed.specs.Packed.{IsPacked}
 use Rattle.lgc_packed.proofs.InclusionLaws.{member_below}
 use Rattle.lgc_proofs.specs.Store.{key_of}
 
 module _ (n : ℕ) (few : n ≤ MOST_VALUES) where
-  -- the members below n of each list are those of some mask
-  masked : (set : List ℕ) → ((v : ℕ) → has set v ≡ true → v < n) → (mask : ℕ) × (mask < 2 ^ n) × (members_of n mask ≡ values_where n (has set))
-  masked [] below = (0, pow_pos n, values_where-alike n _ _ (λ v lt. sym (has-members_of n 0 v lt) ∙ ap (λ s. has s v) (empty_law n)))
-  masked (v ∷ set) below =
-      let v_lt : v < n = below v (or_left (v == v) (has set v) (eq-eqb v v refl)) in
-      let rest = masked set (λ w member. below w (or_right (v == w) (has set w) member)) in (
-        bit_or rest.0 (1 * 2 ^ v % 65536),
-        with_below n rest.0 v rest.1 v_lt few,
-        with_law n rest.0 v (values_where n (has set)) rest.2 v_lt few ∙ values_where-alike n _ _ (λ w lt. joined w lt (has set w) (has-values_where n (has set) w)),
-      )
-    where
-      joined : (w : ℕ) → w < n → (there : Bool) → has (values_where n (has set)) w ≡ (nat_lt w n && there) → (has (values_where n (has set)) w || (w == v)) ≡ ((v == w) || there)
-      joined w lt there is = grind (arith, nat_tests)
-
   -- a set is the one that its mask tells
   set_of_mask : (set : List ℕ) → IsSign n set → members_of n (mask_of set) ≡ set
   set_of_mask set is =
-      let mask = masked set (λ v member. member_below n set v is member) in
+      let mask = mask_for n few set (λ v member. member_below n set v is member) in
       let same : set ≡ members_of n mask.0 = is.set ∙ sym mask.2 in
       ap (members_of n) (ap mask_of same ∙ mask_of-members_of n mask.0 mask.1) ∙ sym same
 

@@ -1,16 +1,14 @@
 -- An exact rule of a quantifier is exact at the values that a body takes: their set stands in a row of the quantifier's table.
-use Rattle.std.proofs.Common.{◌≡◌, ◌≢◌, ℕ, ◌+◌, ◌-◌, ◌*◌, ◌%◌, ◌^◌, ◌<◌, ◌≤◌, ◌==◌, ◌||◌, ◌&&◌, Bool, true, List, [], ◌∷◌, refl, sym, ◌∙◌, ap, subst, arith, ⊎_elim}
-use Rattle.std.specs.Prelude.{nat_lt, bit_or}
+use Rattle.std.proofs.Common.{◌≡◌, ◌≢◌, ℕ, ◌+◌, ◌-◌, ◌^◌, ◌<◌, ◌≤◌, ◌==◌, ◌||◌, ◌&&◌, Bool, true, List, [], ◌∷◌, refl, sym, ◌∙◌, ap, subst, arith, ⊎_elim}
+use Rattle.std.specs.Prelude.{nat_lt}
 use Rattle.std.specs.List.{All, AllByRecursion, list_all, list_any}
 use Rattle.std.specs.Cmp.{both_ways as same_tests}
-use Rattle.std.proofs.Math.Pow.{pow_pos}
 use Rattle.std.proofs.lemmas.Bool.{and_from, and_parts, or_cases, or_left, or_right, eqb-true, eq-eqb, lt-ltb}
-use Rattle.std.proofs.lemmas.Bool.Decides.{nat_tests}
 use Rattle.std.proofs.lemmas.List.Elements.{recursion_from_All}
 use Rattle.lgc_values.specs.declared.TheConstants.{MOST_VALUES}
 use Rattle.lgc_values.specs.Values.{has, values_where, members_of, set_of_row}
 use Rattle.lgc_values.specs.Logic.{Logic, IsLogic, value_over}
-use Rattle.lgc_values.proofs.ValueLaws.{values_where-alike, has-values_where, has-members_of, empty_law, with_law, with_below, nonempty_law}
+use Rattle.lgc_values.proofs.ValueLaws.{has-values_where, nonempty_law, mask_for}
 use Rattle.lgc_clauses.specs.Rules.{quantifier, holds_over}
 use Rattle.lgc_clauses.specs.Exactness.{IsExact}
 use Rattle.lgc_syntax.specs.Structures.{set_of_values}
@@ -77,19 +75,6 @@ has-values n values below v = sym (has-values_where n (has values) v ∙ same_te
     (λ member. and_from (nat_lt v n) (has values v) (lt-ltb v n (member_below n values v below member)) member))
 
 module _ (n : ℕ) (few : n ≤ MOST_VALUES) where
-  -- it has a mask
-  mask_for : (values : List ℕ) → AllByRecursion (λ v. v < n) values → (mask : ℕ) × (mask < 2 ^ n) × (members_of n mask ≡ values_where n (has values))
-  mask_for [] below = (0, pow_pos n, values_where-alike n _ _ (λ v lt. sym (has-members_of n 0 v lt) ∙ ap (λ s. has s v) (empty_law n)))
-  mask_for (v ∷ values) below =
-      let rest = mask_for values below.1 in (
-        bit_or rest.0 (1 * 2 ^ v % 65536),
-        with_below n rest.0 v rest.1 below.0 few,
-        with_law n rest.0 v (values_where n (has values)) rest.2 below.0 few ∙ values_where-alike n _ _ (λ w lt. more w lt (has values w) (has-values_where n (has values) w)),
-      )
-    where
-      more : (w : ℕ) → w < n → (there : Bool) → has (values_where n (has values)) w ≡ (nat_lt w n && there) → (has (values_where n (has values)) w || (w == v)) ≡ ((v == w) || there)
-      more w lt there is = grind (arith, nat_tests)
-
   -- it isn't empty where the list isn't
   set_not_empty : (values : List ℕ) → values ≢ [] → AllByRecursion (λ v. v < n) values → values_where n (has values) ≢ []
   set_not_empty [] some below none = some refl
@@ -101,7 +86,7 @@ module _ (n : ℕ) (few : n ≤ MOST_VALUES) where
   -- so it stands in a row of a quantifier's table
   row_of_values : (values : List ℕ) → values ≢ [] → AllByRecursion (λ v. v < n) values → (row : ℕ) × (row < 2 ^ n - 1) × (set_of_row n row ≡ values_where n (has values))
   row_of_values values some below =
-      let mask = mask_for values below in
+      let mask = mask_for n few values (λ v member. member_below n values v below member) in
       let one : 1 ≤ mask.0 = nonempty_law n mask.0 (values_where n (has values)) mask.2 (set_not_empty values some below) in
       let next : mask.0 - 1 + 1 ≡ mask.0 = omega arith in
       (mask.0 - 1, omega (arith, mask.1), ap (members_of n) next ∙ mask.2)

@@ -3,7 +3,7 @@ use Rattle.std.proofs.Common.{◌≡◌, ℕ, ◌+◌, ◌-◌, ◌*◌, ◌/◌
 use Rattle.std.specs.Prelude.{filter, nat_lt, nat_le, bit_or, bit_and, bit_xor, min, max}
 use Rattle.std.specs.List.{range_with_len, list_all, list_any}
 use Rattle.std.specs.Int.{bit_at}
-use Rattle.std.proofs.lemmas.Bool.{cases_eq, eqb-true, eq-eqb, ne_eqb, and_parts, or_cases, ltb-true}
+use Rattle.std.proofs.lemmas.Bool.{cases_eq, eqb-true, eq-eqb, ne_eqb, and_parts, or_cases, or_left, or_right, ltb-true}
 use Rattle.std.proofs.lemmas.Bool.Decides.{nat_tests, same_from_decides, Decides-eqb}
 use Rattle.std.proofs.lemmas.Nat.{or_lt, xor_lt, and_le_l}
 use Rattle.std.proofs.Math.Pow.{pow_mono, pow-lt, ones_lt, pow_pos}
@@ -273,3 +273,17 @@ some_member n mask lt pos e = let none : mask ≡ 0 = sym (mask_of-members_of n 
 pub members_below : (n mask v : ℕ) (set : List ℕ) → members_of n mask ≡ set → has set v ≡ true → v < n
 members_below n mask v set is mem =
     ltb-true v n (and_parts (nat_lt v n) (bit_at mask v == 1) (sym (has-values_where n (λ w. bit_at mask w == 1) v) ∙ ap (λ s. has s v) is ∙ mem)).0
+
+-- the members below n of each list are those of some mask
+pub mask_for : (n : ℕ) → n ≤ MOST_VALUES → (values : List ℕ) → ((v : ℕ) → has values v ≡ true → v < n) → (mask : ℕ) × (mask < 2 ^ n) × (members_of n mask ≡ values_where n (has values))
+mask_for n few [] below = (0, pow_pos n, values_where-alike n _ _ (λ v lt. sym (has-members_of n 0 v lt) ∙ ap (λ s. has s v) (empty_law n)))
+mask_for n few (v ∷ values) below =
+    let v_lt : v < n = below v (or_left (v == v) (has values v) (eq-eqb v v refl)) in
+    let rest = mask_for n few values (λ w member. below w (or_right (v == w) (has values w) member)) in (
+      bit_or rest.0 (1 * 2 ^ v % 65536),
+      with_below n rest.0 v rest.1 v_lt few,
+      with_law n rest.0 v (values_where n (has values)) rest.2 v_lt few ∙ values_where-alike n _ _ (λ w lt. joined w lt (has values w) (has-values_where n (has values) w)),
+    )
+  where
+    joined : (w : ℕ) → w < n → (there : Bool) → has (values_where n (has values)) w ≡ (nat_lt w n && there) → (has (values_where n (has values)) w || (w == v)) ≡ ((v == w) || there)
+    joined w lt there is = grind (arith, nat_tests)
