@@ -1,20 +1,20 @@
 -- Tests of what refutes a query.
-use Rattle.std.proofs.Common.{◌≡◌, ℕ, Bool, true, false, not, cond, ◌||◌, ◌&&◌, List, [], ◌∷◌, ◌++◌, get_or, refl, sym, ap, ◌∙◌}
+use Rattle.std.proofs.Common.{◌≡◌, ℕ, Bool, true, false, not, ◌&&◌, List, get_or, refl, sym, ap, ◌∙◌}
 use Rattle.std.specs.Prelude.{◌↔◌}
 use Rattle.std.specs.Bool.{Decides}
-use Rattle.std.specs.List.{All, list_all, list_any, flat_map, fold}
-use Rattle.std.proofs.Math.Bool.{or-false}
+use Rattle.std.specs.List.{All, list_all, list_any, flat_map}
 use Rattle.std.proofs.lemmas.Bool.{and_parts, and_from, not-true, not_from_false, false≢true, both_ways}
 use Rattle.std.proofs.lemmas.Bool.Decides.{Decides-by_and, same_from_decides, not_from_Decides}
-use Rattle.std.proofs.lemmas.List.Folds.{list_all-append, list_any-append, list_any_at, Any-from_list_any}
+use Rattle.std.proofs.lemmas.List.Folds.{list_all-append, list_any_at, Any-from_list_any}
 use Rattle.lgc_values.specs.Logic.{Logic}
 use Rattle.lgc_syntax.specs.declared.formula.Formula.{Formula}
 use Rattle.lgc_syntax.specs.Equality.{same_formula}
 use Rattle.lgc_syntax.specs.Sizes.{has_quantifier}
 use Rattle.lgc_syntax.proofs.EqualityLaws.{same_formula-Decides}
 use Rattle.lgc_meaning.specs.declared.query.Query.{Query}
-use Rattle.lgc_meaning.specs.Valuations.{IsEntries, atom_places, with_atom, each_once}
+use Rattle.lgc_meaning.specs.Valuations.{IsEntries, atom_places, each_once}
 use Rattle.lgc_meaning.specs.Queries.{formulas_of, IsPropositional}
+use Rattle.lgc_meaning.proofs.AtomLaws.{any-each_once}
 use Rattle.lgc_report.specs.Valid.{ListsAtoms, IsRefutation}
 
 -- ---- quantifiers
@@ -31,31 +31,6 @@ not-Decides b = (not-true b, not_from_false b)
 pub propositional-Decides : (query : Query) → Decides (list_all (λ f. not (has_quantifier f)) (formulas_of query)) (IsPropositional query)
 propositional-Decides query =
     Decides-by_and (λ f. not (has_quantifier f)) (λ f. has_quantifier f ≡ false) (list_all (λ f. not (has_quantifier f))) (λ f. not-Decides (has_quantifier f)) refl (λ f fs. refl) (formulas_of query)
-
--- ---- each atom once: the same atoms are there
-
-any-with_atom : (found : List Formula) (atom a : Formula) → list_any (same_formula a) (with_atom found atom) ≡ (list_any (same_formula a) found || same_formula a atom)
-any-with_atom found atom a = cases (list_any (same_formula atom) found) refl where
-  known : (b : Bool) → list_any (same_formula atom) found ≡ true → same_formula a atom ≡ b → list_any (same_formula a) found ≡ (list_any (same_formula a) found || b)
-  known true there same =
-      let here : list_any (same_formula a) found ≡ true = ap (λ x. list_any (same_formula x) found) ((same_formula-Decides a atom).0 same) ∙ there in
-      here ∙ ap (λ b. b || true) (sym here)
-  known false there different = sym (or-false (list_any (same_formula a) found))
-
-  cases : (b : Bool) → list_any (same_formula atom) found ≡ b → list_any (same_formula a) (cond b found (found ++ atom ∷ [])) ≡ (list_any (same_formula a) found || same_formula a atom)
-  cases true there = known (same_formula a atom) there refl
-  cases false absent = list_any-append (same_formula a) found (atom ∷ []) ∙ ap (λ b. list_any (same_formula a) found || b) (or-false (same_formula a atom))
-
-or_regrouped : (x y z : Bool) → ((x || y) || z) ≡ (x || (y || z))
-or_regrouped true y z = refl
-or_regrouped false y z = refl
-
-any-fold : (a : Formula) (found places : List Formula) → list_any (same_formula a) (fold with_atom found places) ≡ (list_any (same_formula a) found || list_any (same_formula a) places)
-any-fold a found [] = sym (or-false (list_any (same_formula a) found))
-any-fold a found (atom ∷ places) =
-    any-fold a (with_atom found atom) places
-    ∙ ap (λ b. b || list_any (same_formula a) places) (any-with_atom found atom a)
-    ∙ or_regrouped (list_any (same_formula a) found) (same_formula a atom) (list_any (same_formula a) places)
 
 -- ---- entries
 
@@ -106,7 +81,7 @@ lists-Decides query entries atoms are is =
     let places = flat_map atom_places (formulas_of query) in
     let first = list_all (λ (entry : Formula × ℕ). is_atom_of entries atoms entry.0) entries in
     let second = list_all (is_listed entries) atoms in
-    let known : (f : Formula) → is_atom_of entries atoms f ≡ list_any (same_formula f) places = λ f. ap (list_any (same_formula f)) is ∙ any-fold f [] places in (
+    let known : (f : Formula) → is_atom_of entries atoms f ≡ list_any (same_formula f) places = λ f. ap (list_any (same_formula f)) is ∙ any-each_once f places in (
       (λ passes.
           let parts = and_parts first second passes in
           let from = from_entry entries atoms ((entries-Decides entries atoms).0 parts.0) in

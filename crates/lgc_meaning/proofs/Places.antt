@@ -60,12 +60,11 @@ differ_from : (atoms : List Formula) (atom : Formula) → list_any (same_formula
 differ_from atoms atom absent k d within e =
     both_ways (list_any (same_formula atom) atoms) absent (list_any_at (same_formula atom) atoms k d within ((same_formula-Decides atom (get_or atoms k d)).1 (sym e)))
 
-pub All-each_once : (found places : List Formula) → All (λ atom. is_atom atom ≡ true) found → All (λ atom. is_atom atom ≡ true) places → All (λ atom. is_atom atom ≡ true) (fold with_atom found places)
-All-each_once found [] all_found all = all_found
-All-each_once found (atom ∷ places) all_found all =
-    All-each_once (with_atom found atom) places
-    (with_atom-pick (All (λ a. is_atom a ≡ true)) found atom (list_any (same_formula atom) found) refl all_found
-    (λ _. All-append (λ a. is_atom a ≡ true) found (atom ∷ []) all_found (All-cons (λ a. is_atom a ≡ true) atom [] (all 0 atom (omega arith)) (λ i d lt. absurd (omega arith)))))
+pub All-each_once : (P : Formula → Type 0) (found places : List Formula) → All P found → All P places → All P (fold with_atom found places)
+All-each_once P found [] all_found all = all_found
+All-each_once P found (atom ∷ places) all_found all =
+    All-each_once P (with_atom found atom) places
+    (with_atom-pick (All P) found atom (list_any (same_formula atom) found) refl all_found (λ _. All-append P found (atom ∷ []) all_found (All-cons P atom [] (all 0 atom (omega arith)) (λ i d lt. absurd (omega arith)))))
     (λ i d lt. all (suc i) d (omega arith))
 
 pub distinct-each_once : (found places : List Formula) → AllPairs (λ a b. a ≢ b) found → AllPairs (λ a b. a ≢ b) (fold with_atom found places)
@@ -76,7 +75,7 @@ distinct-each_once found (atom ∷ places) distinct =
 
 -- the atoms of formulas
 pub atoms_are_atoms : (fs : List Formula) → All (λ atom. is_atom atom ≡ true) (each_once (flat_map atom_places fs))
-atoms_are_atoms fs = All-each_once [] (flat_map atom_places fs) (λ i d lt. absurd (omega arith)) (all_of_each fs (each_always (λ f. All (λ atom. is_atom atom ≡ true) (atom_places f)) fs All-atom_places))
+atoms_are_atoms fs = All-each_once (λ atom. is_atom atom ≡ true) [] (flat_map atom_places fs) (λ i d lt. absurd (omega arith)) (all_of_each fs (each_always (λ f. All (λ atom. is_atom atom ≡ true) (atom_places f)) fs All-atom_places))
 
 pub atoms_differ : (fs : List Formula) → AllPairs (λ a b. a ≢ b) (each_once (flat_map atom_places fs))
 atoms_differ fs = distinct-each_once [] (flat_map atom_places fs) (λ i j d lt within. absurd (omega arith))

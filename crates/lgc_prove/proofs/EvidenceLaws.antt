@@ -36,7 +36,8 @@ use Rattle.lgc_proofs.proofs.LineSteps.{included_in_any_order}
 use Rattle.lgc_prove.specs.Answers.{Decides}
 use Rattle.lgc_prove.specs.Work.{Proves, IsAnsweredBy, AreAppendedFor, atoms_with_values}
 use Rattle.lgc_prove.proofs.GoalFormulas.{all_of_goal_at}
-use Rattle.lgc_prove.proofs.AtomLaws.{atoms_fit, lists_atoms, same_values}
+use Rattle.lgc_meaning.proofs.AtomLaws.{atoms_fit, same_values}
+use Rattle.lgc_prove.proofs.AtomLaws.{lists_atoms}
 
 -- ---- lists
 
@@ -130,7 +131,7 @@ module _ (logic : Logic) (is : IsLogic logic) (query : Query) where
       let atoms = each_once (flat_map atom_places (formulas_of query)) in
       All-map (λ (entry : Formula × ℕ). syntax.Fits logic entry.0 × (entry.1 < logic.size)) (λ (atom : Formula). (atom, value logic v atom)) atoms
       (All-weaker (λ atom. syntax.Fits logic atom × (has_quantifier atom ≡ false)) (λ atom. syntax.Fits logic atom × (value logic v atom < logic.size))
-      (λ atom fit. (fit.0, HasValues-value logic is v (valuation_of entries below) atom)) atoms (atoms_fit logic query fits propositional))
+      (λ atom fit. (fit.0, HasValues-value logic is v (valuation_of entries below) atom)) atoms (atoms_fit logic (formulas_of query) fits.formulas propositional))
 
   -- the values of the query's atoms refute it
   pub refuted_answers : (lines : List PlainLine) (place : ℕ) (goal : List SignedFormula) (entries told : List (Formula × ℕ)) → FitsQuery logic query → IsPropositional query → slice_get (goals_of logic.size query) place ≡ Some goal → IsCounterexample logic goal entries
@@ -140,7 +141,7 @@ module _ (logic : Logic) (is : IsLogic logic) (query : Query) where
       let w = atoms_with_values logic v query in
       let fit = atoms_fit_with_values entries fits propositional (values_below goal entries counter) in
       let below = All-weaker (λ (entry : Formula × ℕ). syntax.Fits logic entry.0 × (entry.1 < logic.size)) (λ (entry : Formula × ℕ). entry.1 < logic.size) (λ entry fits. fits.1) w fit in
-      let same = all_of_goal_at (λ f. value logic (listed w) f ≡ value logic v f) logic.size query place goal at (same_values logic v query) in
+      let same = all_of_goal_at (λ f. value logic (listed w) f ≡ value logic v f) logic.size query place goal at (same_values logic v (formulas_of query)) in
       let fails : is_true_at (value logic (listed w)) goal ≡ false =
       any_each (λ (item : SignedFormula). has item.sign (value logic (listed w) item.formula)) (λ (item : SignedFormula). has item.sign (value logic v item.formula)) goal
       (All-weaker (λ (item : SignedFormula). value logic (listed w) item.formula ≡ value logic v item.formula) (λ (item : SignedFormula). has item.sign (value logic (listed w) item.formula) ≡ has item.sign (value logic v item.formula)) (λ item e. ap (has item.sign) e) goal same)

@@ -11,7 +11,7 @@ use Rattle.lgc_syntax.specs.Values.{listed, value}
 use Rattle.lgc_meaning.specs.Valuations.{atom_places, each_once}
 use Rattle.lgc_meaning.specs.Queries.{formulas_of}
 use Rattle.lgc_prove.proofs.OneByOne.{next_item, next_differs}
-use Rattle.lgc_prove.proofs.AtomLaws.{atoms_fit}
+use Rattle.lgc_meaning.proofs.AtomLaws.{atoms_fit}
 use Rattle.lgc_prove.proofs.evidence.values_of_atoms.Goals as goal
 
 pub value_of-value-requires : goal.value_of-value-requires
@@ -21,7 +21,7 @@ value_of-value-requires g c =
     let all = into_iter_items c.into_iter-atom-iterator.result in
     let Known : Formula → Type 0 = λ f. Fits logic f × (has_quantifier f ≡ false) in
     let atoms : all ≡ each_once (flat_map atom_places (formulas_of c.args.query.now)) = c.into_iter-atom-iterator.ensures.into_iter_gives.0 ∙ c.into_vec-atom-items.ensures ∙ c.in_ok-atoms.ensures.list in
-    let fit = next_item all at.yielded Known (into_iter_items at.atom-iterator) (into_iter_items c.next.new.self) c.in-Some.atom at.invariant.0 c.in-Some.ensures.steps.0 (subst (All Known) (sym atoms) (atoms_fit logic c.args.query.now c.requires.fits c.requires.propositional)) in
+    let fit = next_item all at.yielded Known (into_iter_items at.atom-iterator) (into_iter_items c.next.new.self) c.in-Some.atom at.invariant.0 c.in-Some.ensures.steps.0 (subst (All Known) (sym atoms) (atoms_fit logic (formulas_of c.args.query.now) c.requires.fits.formulas c.requires.propositional)) in
     (omega arith, (fit.0, (fit.1, c.requires.values)))
 
 pub set-requires-clause-unlisted : goal.set-requires-clause-unlisted
