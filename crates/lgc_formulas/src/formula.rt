@@ -434,7 +434,8 @@ fn operands<'a, const N: usize>(
 {
     let (_, rest) = one(c, Class::OpenRound, tokens)?;
     let (first, rest) = formula(alloc, c, scope, deep, many, rest)?;
-    let before = with_formula(List::new(alloc), first)?;
+    let room = List::of_vec(Vec::with_capacity(alloc, k as usize + 1)?);
+    let before = with_formula(room, first)?;
     more_operands(alloc, c, scope, deep, k, before, rest)
 }
 

@@ -163,7 +163,7 @@ pub(crate) fn stands_for<'a, const N: usize>(
     requires rest { AllIn c.now.bytes.now rest.now }
     ensures { option_map (λ f. f.now) result ≡ stands_for (setting_of c.now) (named c.now.m.now c.now.bytes.now token.now rest.now) }
 {
-    if is_a(c.bytes, Terminal::Only(Class::Hash), token, rest) {
+    if is_numbered(c) && is_a(c.bytes, Terminal::Only(Class::Hash), token, rest) {
         let_at(c, number_first(c.bytes, rest))
     } else {
         None

@@ -1,5 +1,5 @@
 -- What a token is to the grammars.
-use Rattle.std.specs.Prelude.{codes, ℕ, Bool, true, false, not, ◌&&◌, ◌||◌, ◌==◌, List, [], ◌∷◌, Option, Some, None, is_some, if◌then◌else◌}
+use Rattle.std.specs.Prelude.{codes, ◌≡◌, ℕ, Bool, true, false, not, ◌&&◌, ◌||◌, ◌==◌, List, [], ◌∷◌, Option, Some, None, is_some, if◌then◌else◌}
 use Rattle.std.specs.Str.{bytes_eq}
 use Rattle.std.specs.List.{list_all}
 use Rattle.std.specs.Char.{is_ascii_digit}
@@ -386,3 +386,11 @@ abbrev pub AsksForNumber : Terminal → Type 0
 AsksForNumber terminal.Number = Unit {0}
 AsksForNumber terminal.Argument = Unit {0}
 AsksForNumber _ = ⊥
+
+-- whether a Lower is of the terminal is answered so, whatever it says
+abbrev pub IsOfEachWord : Terminal → Bool → Type 0
+IsOfEachWord t answer = (c : Class) → is_lower c ≡ true → passes t c ≡ answer
+
+-- whether a token of the kind is
+abbrev pub IsOfEach : Terminal → Kind → Bool → Type 0
+IsOfEach t k answer = (x : Spelled) → x.token.kind ≡ k → is_a t x ≡ answer

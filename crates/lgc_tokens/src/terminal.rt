@@ -3,12 +3,12 @@ ghost use Rattle.std.specs.Prelude.{◌≡◌, ◌≤◌, ◌<◌, ◌^◌, leng
 ghost use Rattle.lgc_grammar.specs.Reading.{one_at, next_is, skip, past};
 ghost use Rattle.lgc_lexer.specs.Spans.{LiesIn, AllIn};
 ghost use Rattle.lgc_tokens.specs.Spelled.{spelled, spelled_all, place, IsRest, IsShorter};
-ghost use Rattle.lgc_tokens.specs.Classes.{passes, is_a, names, names_or_symbols, values, order_values, logic_names, digits_alone, numbers, long_numbers, arguments, zeros, quantifier_clauses, begins_statement, begins_query};
+ghost use Rattle.lgc_tokens.specs.Classes.{passes, is_a, IsOfEachWord, IsOfEach, names, names_or_symbols, values, order_values, logic_names, digits_alone, numbers, long_numbers, arguments, zeros, quantifier_clauses, begins_statement, begins_query};
 ghost use Rattle.lgc_tokens.specs.Gives.{Gives};
 
 use crate::class::{Class, class_of, is_lower, same};
 use crate::stop::Stop;
-use lgc_lexer::Token;
+use lgc_lexer::{Kind, Token};
 
 /// What is read, and the tokens behind it.
 pub type Reading<'a, T> = Result<(T, &'a [Token]), Stop<'a>>;
@@ -176,13 +176,36 @@ fn passes(terminal: Terminal, class: Class) -> bool
     }
 }
 
+// Whether each Lower is one of the terminal, or none is; none where that depends on what it says.
+fn of_each_word(terminal: Terminal) -> Option<bool>
+    ensures { IfSome result (λ answer. IsOfEachWord terminal answer) }
+{
+    match terminal {
+        Terminal::Word | Terminal::Name => Some(true),
+        Terminal::Only(class) if !is_lower(class) => Some(false),
+        _ => None,
+    }
+}
+
+fn of_each_of_kind(terminal: Terminal, kind: Kind) -> Option<bool>
+    ensures { IfSome result (λ answer. IsOfEach terminal kind answer) }
+{
+    match kind {
+        Kind::Lower => of_each_word(terminal),
+        _ => None,
+    }
+}
+
 /// Whether a token before others is one of the terminal.
 pub fn is_a(bytes: &[u8], terminal: Terminal, token: &Token, rest: &[Token]) -> bool
     requires token { LiesIn (length bytes.now) token.now }
     requires rest { AllIn bytes.now rest.now }
     ensures { result ≡ is_a terminal (spelled bytes.now token.now rest.now) }
 {
-    passes(terminal, class_of(bytes, token, rest))
+    match of_each_of_kind(terminal, token.kind) {
+        Some(answer) => answer,
+        None => passes(terminal, class_of(bytes, token, rest)),
+    }
 }
 
 /// The next token, which has to be of the terminal, and those behind it.
