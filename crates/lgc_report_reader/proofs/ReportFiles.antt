@@ -11,7 +11,7 @@ use Rattle.lgc_tokens.proofs.Places.{few_tokens}
 use Rattle.lgc_syntax.specs.declared.fault.InputFault.{InputFault}
 use Rattle.lgc_inputs.specs.Faults.{place_in}
 use Rattle.lgc_inputs.specs.Told.{Holds, IfFault, IsTree, Tells, place_of_first}
-use Rattle.lgc_inputs.proofs.Texts.{text_once, text_answer, text_is, text_of, text_faults}
+use Rattle.lgc_inputs.proofs.Texts.{text_once, text_answer, text_complete, text_is, text_of, text_faults}
 use Rattle.lgc_formulas.specs.Setting.{Setting}
 use Rattle.lgc_formulas.specs.FormulaTexts.{text_setting}
 use Rattle.lgc_formulas.proofs.FormulasKept.{AreKnown, named_known}
@@ -54,6 +54,9 @@ module _ (n : ℕ) (logic : Logic) (bytes : List ℕ) where
 
   pub report_is : (report : Report n) (result : Result (Report n) InputFault) → IsReportOf n logic bytes report → Tells (λ report. report) result (report_read n logic bytes) → IsTree (λ report. report) result report
   report_is = text_is reported_place (reported_all (text_setting logic) bytes) (ReportHere n (text_setting logic)) (PlainReportHere (text_setting logic)) (whole (report_at n (text_setting logic))) (whole_answers (report_reads n (text_setting logic))) (whole_exact (report_reads n (text_setting logic))) LONGEST_REPORT bytes
+
+  pub report_complete : (report : Report n) → IsReportOf n logic bytes report → report_read n logic bytes ≡ Ok report
+  report_complete = text_complete reported_place (reported_all (text_setting logic) bytes) (ReportHere n (text_setting logic)) (PlainReportHere (text_setting logic)) (whole (report_at n (text_setting logic))) (whole_answers (report_reads n (text_setting logic))) (whole_exact (report_reads n (text_setting logic))) LONGEST_REPORT bytes
 
   pub report_text : (report : Report n) → ReportGives n logic bytes (Ok report) → IsReportOf n logic bytes report
   report_text = text_of reported_place (reported_all (text_setting logic) bytes) (ReportHere n (text_setting logic)) (PlainReportHere (text_setting logic)) (whole (report_at n (text_setting logic))) (whole_answers (report_reads n (text_setting logic))) (whole_exact (report_reads n (text_setting logic))) LONGEST_REPORT bytes

@@ -14,7 +14,6 @@ use Rattle.lgc_top.specs.declared.status.Status.TheVariants.{Done, Refuted, Reje
 use Rattle.lgc_rules.specs.declared.file.TheConstants as rules
 use Rattle.lgc_queries.specs.declared.TheConstants as queries
 use Rattle.lgc_report.specs.declared.report.Report.{Report}
-use Rattle.lgc_report.specs.Reports.{plain_report}
 use Rattle.lgc_report_reader.specs.declared.report.TheConstants as reports
 use Rattle.lgc_meaning.specs.declared.query.Query.{Query}
 use Rattle.lgc_top.specs.declared.command.Work.{Work}

@@ -1,5 +1,5 @@
 -- A query file has no more queries than bytes.
-use Rattle.std.proofs.Common.{◌≡◌, ◌<◌, ◌≤◌, ◌+◌, ◌^◌, ℕ, suc, Bool, true, false, List, [], ◌∷◌, ◌++◌, length, Ok, refl, ap, arith, length-append}
+use Rattle.std.proofs.Common.{◌≡◌, ◌<◌, ◌≤◌, ◌+◌, ◌^◌, ℕ, suc, Bool, true, false, List, [], ◌∷◌, length, Ok, refl, ap, arith, length-append}
 use Rattle.lgc_values.specs.Logic.{Logic}
 use Rattle.lgc_lexer.specs.declared.token.Token.{Token}
 use Rattle.lgc_tokens.proofs.Places.{few_tokens}
@@ -8,7 +8,6 @@ use Rattle.lgc_syntax.specs.declared.fault.TheConstants.{WRONG_ARITY, TOO_MANY_G
 use Rattle.lgc_meaning.specs.declared.query.Query.{Query}
 use Rattle.lgc_formulas.specs.Named.{Named, named_all, is}
 use Rattle.lgc_tokens.specs.declared.class.Class.TheVariants.{Dot}
-use Rattle.lgc_queries.specs.declared.TheConstants.{LONGEST_FILE}
 use Rattle.lgc_queries.specs.Goals.{has_too_many_goals}
 use Rattle.lgc_queries.specs.QueryGrammar.{QueryEnd, NextQuery}
 use Rattle.lgc_queries.specs.QueryFile.{IsFileOf}

@@ -3,3 +3,4 @@ pub mod Meanings
 pub mod Stops
 pub mod Judging
 pub mod FewQueries
+pub mod ReadBack

@@ -1,5 +1,5 @@
 -- Rule files, and the lines on their rules.
-use Rattle.std.specs.Prelude.{◌≡◌, ◌↔◌, ℕ, Bool, IsTrue, List, All, map, Result, Ok, Err}
+use Rattle.std.specs.Prelude.{◌↔◌, ℕ, Bool, IsTrue, List, All, map, Result, Ok, Err}
 use Rattle.lgc_values.specs.Logic.{Logic}
 use Rattle.lgc_clauses.specs.declared.rule.Rule.{Rule}
 use Rattle.lgc_clauses.specs.Kinds.{plain_rule}
