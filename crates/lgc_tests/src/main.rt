@@ -33,9 +33,10 @@ mod tests;
 use std::{fs, io};
 use table::Table;
 
-const TABLES: [&str; 10] = [
+const TABLES: [&str; 11] = [
     "commands.txt",
     "calculus.txt",
+    "latex.txt",
     "spec_faults.txt",
     "verdicts.txt",
     "input_faults.txt",

@@ -9,6 +9,7 @@ use Rattle.lgc_clauses.specs.declared.rule.Rule.{Rule}
 use Rattle.lgc_syntax.specs.declared.fault.InputFault.{InputFault}
 use Rattle.lgc_syntax.specs.declared.fault.InputFault.TheVariants as input
 use Rattle.lgc_syntax.specs.declared.fault.TheConstants as syntax
+use Rattle.lgc_top.specs.declared.command.Format.{Format}
 use Rattle.lgc_top.specs.declared.status.Status.{Status}
 use Rattle.lgc_top.specs.declared.status.Status.TheVariants.{Done, Refuted, Rejected}
 use Rattle.lgc_rules.specs.declared.file.TheConstants as rules
@@ -29,9 +30,9 @@ use Rattle.lgc_top.specs.Run.{Run, HasInput, HasInputFault, WorksOn, CommandAnsw
 
 -- what the output gained
 module _ (run : Run) where
-  pub prints_calculus : (file : List ℕ) (ended : Status) → Ends run ended → command_of run.words ≡ Some (Calculus file) → ended ≡ Done → PrintsCalculus run file
-  prints_calculus file ended ends command is = from (subst (Ends run) is ends) where
-    from : Ends run Done → PrintsCalculus run file
+  pub prints_calculus : (format : Format) (file : List ℕ) (ended : Status) → Ends run ended → command_of run.words ≡ Some (Calculus format file) → ended ≡ Done → PrintsCalculus run format file
+  prints_calculus format file ended ends command is = from (subst (Ends run) is ends) where
+    from : Ends run Done → PrintsCalculus run format file
     from (text, answers, (takes, same)) =
         let (kept, (spec, asked, calculus)) = subst (λ found. WordsAnswer found run.files run.files_after Done text) command answers in
         record { spec = spec; asked = asked; text = text; calculus = calculus; printed = takes }

@@ -61,8 +61,8 @@ abbrev is_valid : (logic : Logic) → Report logic.size → Type 0
 is_valid logic report = IsValid logic (plain_report report)
 
 works_mean : (command : Command) (files : FilesState) (status : Status) (text : List ℕ) → Works command files status text → CommandMeans (Holds files) command status
-works_mean (Calculus file) files Done text (spec, has, calculus) = with_spec (Calculus file) files Done spec has refl
-works_mean (Calculus file) files _ text h = absurd h
+works_mean (Calculus format file) files Done text (spec, has, calculus) = with_spec (Calculus format file) files Done spec has refl
+works_mean (Calculus format file) files _ text h = absurd h
 works_mean (Verify file rules) files Done text (spec, bytes, has, verdicts) =
     with_spec (Verify file rules) files Done spec has.logic (with_input (Verify file rules) files Done rules refl spec bytes has (RulesGiven (logic_of spec)) (is_right (logic_of spec)) Rejected (Ok verdicts.rules) verdicts.given (inl (verdicts.decided.0 refl, refl)))
 works_mean (Verify file rules) files Rejected text (spec, bytes, has, verdicts) =
@@ -83,7 +83,7 @@ works_mean (Check file report) files Rejected line (spec, bytes, has, verdict) =
 works_mean (Check file report) files _ line h = absurd h
 
 faults_mean : (command : Command) (files : FilesState) (line : List ℕ) → FilesAnswer command files BadInput line → CommandMeans (Holds files) command BadInput
-faults_mean (Calculus file) files line (spec, bytes, has, fault) = absurd fault.given
+faults_mean (Calculus format file) files line (spec, bytes, has, fault) = absurd fault.given
 faults_mean (Verify file rules) files line (spec, bytes, has, fault) =
     with_spec (Verify file rules) files BadInput spec has.logic (with_input (Verify file rules) files BadInput rules refl spec bytes has (RulesGiven (logic_of spec)) (is_right (logic_of spec)) Rejected (Err (input.Fault fault.number fault.offset)) fault.given refl)
 faults_mean (Prove file queries) files line (spec, bytes, has, fault) =
@@ -132,7 +132,7 @@ module _ (files : FilesState) where
 
   spec_once : (command : Command) (found : Result Spec SpecFault) (a b : Status) → SpecMeans (Holds files) command found a → SpecMeans (Tells files) command found b → a ≡ b
   spec_once command (Err fault) a b p q = p ∙ sym q
-  spec_once (Calculus file) (Ok spec) a b p q = p ∙ sym q
+  spec_once (Calculus format file) (Ok spec) a b p q = p ∙ sym q
   spec_once (Verify file rules) (Ok spec) a b p q = input_once rules (RulesGiven (logic_of spec)) (is_right (logic_of spec)) Rejected (rules_once (logic_of spec)) a b p q
   spec_once (Prove file queries) (Ok spec) a b p q = input_once queries (QueriesGiven (logic_of spec)) (All (IsSatisfiedEverywhere (logic_of spec))) Refuted (queries_once (logic_of spec)) a b p q
   spec_once (Check file report) (Ok spec) a b p q = input_once report (ReportGiven (logic_of spec)) (is_valid (logic_of spec)) Rejected (report_once (logic_of spec)) a b p q

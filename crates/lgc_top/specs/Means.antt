@@ -43,7 +43,7 @@ InputMeans {A} Has file Gives Passes failing status = (bytes : List ℕ) × (tol
 -- What a logic means for a command: rules pass where all of them are right, queries where every valuation satisfies all of them, and a report
 -- where it is valid.
 abbrev pub LogicMeans : (List ℕ → List ℕ → Type 0) → Command → Logic → Status → Type 0
-LogicMeans Has (Calculus file) logic status = status ≡ Done
+LogicMeans Has (Calculus format file) logic status = status ≡ Done
 LogicMeans Has (Verify file rules) logic status = InputMeans Has rules (RulesGiven logic) (λ given. All (IsRight logic) (map plain_rule given)) Rejected status
 LogicMeans Has (Prove file queries) logic status = InputMeans Has queries (QueriesGiven logic) (All (IsSatisfiedEverywhere logic)) Refuted status
 LogicMeans Has (Check file report) logic status = InputMeans Has report (ReportGiven logic) (λ given. IsValid logic (plain_report given)) Rejected status

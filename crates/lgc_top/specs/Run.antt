@@ -9,6 +9,7 @@ use Rattle.lgc_spec.specs.declared.fault.SpecFault.TheVariants.{Fault}
 use Rattle.lgc_spec.specs.Logics.{logic_of}
 use Rattle.lgc_spec.specs.Specification.{BytesGive}
 use Rattle.lgc_syntax.specs.declared.fault.InputFault.TheVariants as input
+use Rattle.lgc_top.specs.declared.command.Format.{Format}
 use Rattle.lgc_top.specs.declared.status.Status.{Status}
 use Rattle.lgc_top.specs.declared.status.Status.TheVariants.{Done, Refuted, Usage, BadSpec, BadInput, Rejected, ReadFault, WriteFault, Memory}
 use Rattle.lgc_top.specs.FaultLine.{fault_line, input_line, read_line}
@@ -61,7 +62,7 @@ pub record IsFaultOf (bytes line : List ℕ) : Type 0 where
 
 -- the bytes of the second file have this first fault
 abbrev pub HasInputFault : Command → Logic → List ℕ → ℕ → ℕ → Type 0
-HasInputFault (Calculus _) logic bytes number offset = ⊥
+HasInputFault (Calculus _ _) logic bytes number offset = ⊥
 HasInputFault (Verify _ _) logic bytes number offset = RulesGiven logic bytes (Err (input.Fault number offset))
 HasInputFault (Prove _ _) logic bytes number offset = QueriesGiven logic bytes (Err (input.Fault number offset))
 HasInputFault (Check _ _) logic bytes number offset = ReportGiven logic bytes (Err (input.Fault number offset))
@@ -81,7 +82,7 @@ WorksOn command files IsDone = (spec : Spec) × (bytes : List ℕ) × HasInput c
 
 -- each status that the work of a command ends with, and the bytes that are put under it
 abbrev pub Works : Command → FilesState → Status → List ℕ → Type 0
-Works (Calculus file) files Done text = (spec : Spec) × HasSpec (Calculus file) files spec × IsCalculusText (logic_of spec) text
+Works (Calculus format file) files Done text = (spec : Spec) × HasSpec (Calculus format file) files spec × IsCalculusText format spec text
 Works (Verify file rules) files Done text = WorksOn (Verify file rules) files (λ logic bytes. IsVerdictText logic true bytes text)
 Works (Verify file rules) files Rejected text = WorksOn (Verify file rules) files (λ logic bytes. IsVerdictText logic false bytes text)
 Works (Prove file queries) files Done text = WorksOn (Prove file queries) files (λ logic bytes. IsReportOn logic true bytes text)
@@ -123,12 +124,12 @@ Ends run WriteFault = (status : Status) × (bytes : List ℕ) × Answers run sta
 Ends run Memory = (run.out_after ≡ run.out) × (run.err_after ≡ run.err)
 Ends run status = (bytes : List ℕ) × Answers run status bytes × Puts run status (λ old new. Takes old new bytes)
 
--- the output gained the calculus of the specification in this file
-pub record PrintsCalculus (run : Run) (file : List ℕ) : Type 0 where
+-- the output gained the calculus of the specification in this file, in this format
+pub record PrintsCalculus (run : Run) (format : Format) (file : List ℕ) : Type 0 where
   pub spec : Spec
-  pub asked : HasSpec (Calculus file) run.files spec
+  pub asked : HasSpec (Calculus format file) run.files spec
   pub text : List ℕ
-  pub calculus : IsCalculusText (logic_of spec) text
+  pub calculus : IsCalculusText format spec text
   pub printed : Takes run.out run.out_after text
 
 -- the output gained a text of the bytes of the second file, with the logic of the first

@@ -31,7 +31,7 @@ limit_of Check = report.LONGEST_REPORT
 
 -- the command that a value stands for
 abbrev pub asked : Command → words.Command
-asked (Calculus spec) = words.Calculus spec.now
+asked (Calculus format spec) = words.Calculus format spec.now
 asked (OnBoth work spec input) = on_both work spec.now input.now
 
 -- the bytes that are put, under this status, answer the words

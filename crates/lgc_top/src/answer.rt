@@ -11,7 +11,7 @@ ghost use Rattle.lgc_top.specs.Commands.{Calculus, Verify, Prove, Check, spec_of
 ghost use Rattle.lgc_top.specs.Run.{HasSpec, HasInput, HasInputFault};
 ghost use Rattle.lgc_top.specs.Steps.{on_both, limit_of, Answered, Stops, ReadStops, Refuses, verdict_status, answer_status};
 
-use crate::command::{Command, Work, command_of};
+use crate::command::{Command, Format, Work, command_of};
 use crate::fault_line::{fault_line, input_line, read_line};
 use crate::status::Status;
 use crate::work::{calculus_of, report_of, verdict_of, verdicts_of};
@@ -141,13 +141,13 @@ fn read_second<F: Files>(
 
 // ---- commands
 
-fn printed(alloc: Global, spec: &Spec) -> Result<Answer, Stop>
+fn printed(alloc: Global, spec: &Spec, format: Format) -> Result<Answer, Stop>
     requires logic { IsLogic (logic_of spec.now) }
     requires designated { spec.now.designated < 2 ^ length spec.now.values }
-    ensures { (file : List ℕ) (files files_after : FilesState) → files_after ≡ files → HasSpec (Calculus file) files spec.now →
-        Answered (Some (Calculus file)) files files_after result }
+    ensures { (file : List ℕ) (files files_after : FilesState) → files_after ≡ files → HasSpec (Calculus format file) files spec.now →
+        Answered (Some (Calculus format file)) files files_after result }
 {
-    match calculus_of(alloc, spec) {
+    match calculus_of(alloc, spec, format) {
         Ok(bytes) => Ok(Answer {
             status: Status::Done,
             bytes,
@@ -156,11 +156,16 @@ fn printed(alloc: Global, spec: &Spec) -> Result<Answer, Stop>
     }
 }
 
-fn calculus<F: Files>(alloc: Global, files: &mut F, name: &str) -> Result<Answer, Stop>
-    ensures { Answered (Some (Calculus name.now)) (F.state files.old) (F.state files.new) result }
+fn calculus<F: Files>(
+    alloc: Global,
+    files: &mut F,
+    name: &str,
+    format: Format,
+) -> Result<Answer, Stop>
+    ensures { Answered (Some (Calculus format name.now)) (F.state files.old) (F.state files.new) result }
 {
     match read_first(alloc, files, name) {
-        Ok(spec) => printed(alloc, &spec),
+        Ok(spec) => printed(alloc, &spec, format),
         Err(stop) => Err(stop),
     }
 }
@@ -315,7 +320,7 @@ pub(crate) fn answer_to<F: Files>(
     ensures { Answered (command_of (map string_bytes words.now)) (F.state files.old) (F.state files.new) result }
 {
     match command_of(words) {
-        Some(Command::Calculus(spec)) => calculus(alloc, files, spec),
+        Some(Command::Calculus(format, spec)) => calculus(alloc, files, spec, format),
         Some(Command::OnBoth(work, spec, input)) => on_both(alloc, files, spec, input, work),
         None => usage(alloc),
     }

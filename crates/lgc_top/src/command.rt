@@ -1,7 +1,7 @@
 // The words of the command line.
 ghost use Rattle.std.specs.Prelude.{◌≡◌, ℕ, List, map, string_bytes};
 ghost use Rattle.std.specs.Option.{option_map};
-ghost use Rattle.lgc_top.specs.Commands.{is_file_name, command_on, command_named, command_on_both, command_of};
+ghost use Rattle.lgc_top.specs.Commands.{is_file_name, command_on, command_named, command_on_both, command_of_three, command_of};
 ghost use Rattle.lgc_top.specs.Steps.{asked, on_both};
 
 /// What is done with a second file, for the logic of the first.
@@ -15,11 +15,20 @@ pub(crate) enum Work {
     Check,
 }
 
+/// How a calculus is printed.
+#[derive(Clone, Copy)]
+pub(crate) enum Format {
+    /// As text.
+    Text,
+    /// As a document for LaTeX.
+    Latex,
+}
+
 /// What the words ask for.
 #[derive(Clone, Copy)]
 pub(crate) enum Command<'a> {
-    /// The calculus of the specification in the file of this name.
-    Calculus(&'a str),
+    /// The calculus of the specification in the file of this name, in this format.
+    Calculus(Format, &'a str),
     /// Some work on the files of these names.
     OnBoth(Work, &'a str, &'a str),
 }
@@ -30,11 +39,11 @@ fn is_file_name(word: &str) -> bool
     !word.is_empty() && word.as_bytes()[0] != b'-'
 }
 
-fn command_on<'a>(word: &str, spec: &'a str) -> Option<Command<'a>>
-    ensures { option_map asked result ≡ command_on word.now spec.now }
+fn command_on<'a>(format: Format, word: &str, spec: &'a str) -> Option<Command<'a>>
+    ensures { option_map asked result ≡ command_on format word.now spec.now }
 {
     if word == "calculus" && is_file_name(spec) {
-        Some(Command::Calculus(spec))
+        Some(Command::Calculus(format, spec))
     } else {
         None
     }
@@ -62,13 +71,23 @@ fn command_on_both<'a>(word: &str, spec: &'a str, input: &'a str) -> Option<Comm
     }
 }
 
+fn command_of_three<'a>(word: &str, second: &'a str, third: &'a str) -> Option<Command<'a>>
+    ensures { option_map asked result ≡ command_of_three word.now second.now third.now }
+{
+    if second == "--latex" {
+        command_on(Format::Latex, word, third)
+    } else {
+        command_on_both(word, second, third)
+    }
+}
+
 /// The command of the words.
 pub(crate) fn command_of(words: &[String]) -> Option<Command<'_>>
     ensures { option_map asked result ≡ command_of (map string_bytes words.now) }
 {
     match words {
-        [word, spec] => command_on(word.as_str(), spec.as_str()),
-        [word, spec, input] => command_on_both(word.as_str(), spec.as_str(), input.as_str()),
+        [word, spec] => command_on(Format::Text, word.as_str(), spec.as_str()),
+        [word, second, third] => command_of_three(word.as_str(), second.as_str(), third.as_str()),
         _ => None,
     }
 }

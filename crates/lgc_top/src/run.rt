@@ -1,6 +1,7 @@
 // The top call.
 ghost use Rattle.std.specs.Prelude.{◌≡◌, ◌⊎◌, ℕ, List, Some, map, true, false, string_bytes};
 ghost use Rattle.lgc_io.specs.Files.{FilesState};
+ghost use Rattle.lgc_top.specs.declared.command.Format.{Format};
 ghost use Rattle.lgc_top.specs.declared.status.Status.{Status};
 ghost use Rattle.lgc_top.specs.Commands.{Calculus, Verify, Prove, Check, command_of};
 ghost use Rattle.lgc_top.specs.Run.{run_of, Answers, Ends, PrintsCalculus, PrintsVerdicts, PrintsReport, PrintsVerdictOn, IsSoundFor, AfterPut};
@@ -71,9 +72,9 @@ pub fn run_multlog<F: Files, O: Sink, E: Sink>(
     // What each status says of the words and the files, and what then stands in the sinks.
     ensures run { Ends (run_of (map string_bytes words.now) (F.state files.old) (F.state files.new) (O.state out.old) (O.state out.new) (E.state err.old) (E.state err.new)) result }
 
-    // With `Done` the output of `calculus` gained the text of a calculus, each rule of which is exact and irredundant.
+    // With `Done` the output of `calculus` gained the text or the LaTeX document of a calculus, each rule of which is exact and irredundant.
     ensures calculus { let run = run_of (map string_bytes words.now) (F.state files.old) (F.state files.new) (O.state out.old) (O.state out.new) (E.state err.old) (E.state err.new) in
-        (file : List ℕ) → command_of (map string_bytes words.now) ≡ Some (Calculus file) → result ≡ Status.Done → PrintsCalculus run file }
+        (format : Format) (file : List ℕ) → command_of (map string_bytes words.now) ≡ Some (Calculus format file) → result ≡ Status.Done → PrintsCalculus run format file }
 
     // With `Done` or `Rejected` the output of `verify` gained the lines on the rules, all of which are right, or not all of them.
     ensures right { let run = run_of (map string_bytes words.now) (F.state files.old) (F.state files.new) (O.state out.old) (O.state out.new) (E.state err.old) (E.state err.new) in

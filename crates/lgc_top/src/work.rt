@@ -7,8 +7,10 @@ ghost use Rattle.lgc_top.specs.Verify.{JudgesBytes};
 ghost use Rattle.lgc_top.specs.Prove.{ReportsOnBytes};
 ghost use Rattle.lgc_top.specs.Check.{ChecksBytes};
 
+use crate::command::Format;
 use lgc_calculus::derive_calculus;
 use lgc_check::{Told, tell_verdict};
+use lgc_latex::calculus_latex;
 use lgc_print::calculus_text;
 use lgc_prove::{Answered, prove_queries};
 use lgc_queries::read_queries;
@@ -20,15 +22,22 @@ use lgc_values::Matrix;
 use lgc_verify::{Judged, judge_rules};
 use std::alloc::{AllocError, Global};
 
-fn calculus<const N: usize>(alloc: Global, spec: &Spec) -> Result<Vec<u8>, AllocError>
+fn calculus<const N: usize>(
+    alloc: Global,
+    spec: &Spec,
+    format: Format,
+) -> Result<Vec<u8>, AllocError>
     requires size { length spec.now.values ≡ N }
     requires logic { IsLogic (logic_of spec.now) }
     requires designated { spec.now.designated < 2 ^ N }
-    ensures { IfOk result (λ text. IsCalculusText (logic_of spec.now) text.items) }
+    ensures { IfOk result (λ text. IsCalculusText format spec.now text.items) }
 {
     let m: Matrix<N> = matrix_of(alloc, spec)?;
     let calculus = derive_calculus(alloc, &m)?;
-    calculus_text(alloc, &m, calculus.rules.items())
+    match format {
+        Format::Text => calculus_text(alloc, &m, calculus.rules.items()),
+        Format::Latex => calculus_latex(alloc, &m, &spec.name, calculus.rules.items()),
+    }
 }
 
 fn verdicts<const N: usize>(alloc: Global, spec: &Spec, bytes: &[u8]) -> Result<Judged, InputFault>
@@ -90,14 +99,14 @@ macro_rules! at_size {
     };
 }
 
-/// The text of a calculus of the specification's logic.
-pub(crate) fn calculus_of(alloc: Global, spec: &Spec) -> Result<Vec<u8>, AllocError>
+/// A calculus of the specification's logic, in a format.
+pub(crate) fn calculus_of(alloc: Global, spec: &Spec, format: Format) -> Result<Vec<u8>, AllocError>
     requires logic { IsLogic (logic_of spec.now) }
     requires designated { spec.now.designated < 2 ^ length spec.now.values }
-    ensures { IfOk result (λ text. IsCalculusText (logic_of spec.now) text.items) }
+    ensures { IfOk result (λ text. IsCalculusText format spec.now text.items) }
 {
     let size = spec.values.len();
-    at_size!(size, calculus(alloc, spec))
+    at_size!(size, calculus(alloc, spec, format))
 }
 
 /// The lines on the rules of a rule file for the specification's logic, and whether all of them are right; or the file's first fault.

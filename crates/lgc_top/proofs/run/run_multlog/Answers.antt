@@ -3,7 +3,7 @@ use Rattle.lgc_top.proofs.Meanings.{completes}
 use Rattle.lgc_top.proofs.run.run_multlog.Goals as goal
 
 pub returns-clause-calculus : goal.returns-clause-calculus
-returns-clause-calculus g c file = prints_calculus _ file _ c.run_words.ensures
+returns-clause-calculus g c format file = prints_calculus _ format file _ c.run_words.ensures
 
 pub returns-clause-right : goal.returns-clause-right
 returns-clause-right g c file rules = prints_right _ file rules _ c.run_words.ensures
