@@ -1,3 +1,4 @@
 pub mod Operators
 pub mod Valuations
 pub mod Queries
+pub mod Satisfied

@@ -17,7 +17,8 @@ use Rattle.lgc_report.specs.declared.report.Evidence.{Evidence}
 use Rattle.lgc_report.specs.Reports.{PlainClaim, answer, holds, number_of, FitsClaim}
 use Rattle.lgc_report.specs.Valid.{IsValidClaim, ArePositions}
 use Rattle.lgc_proofs.specs.Reasons.{IsPlainReason}
-use Rattle.lgc_prove.specs.Answers.{IsAsked, Decides, IsAnswerTo, IsPartOf}
+use Rattle.lgc_queries.specs.Asked.{IsAsked}
+use Rattle.lgc_prove.specs.Answers.{Decides, IsAnswerTo, IsPartOf}
 use Rattle.lgc_prove.specs.Work.{IsAnsweredBy, AreLinesBy, AreAppendedFor, AreAnswers}
 use Rattle.lgc_prove.proofs.LineLaws.{some_of_all}
 use Rattle.lgc_prove.proofs.EvidenceLaws.{zip_push, evidence_over}

@@ -35,7 +35,7 @@ use Rattle.lgc_proofs.specs.Found.{IsProvedAt}
 use Rattle.lgc_proofs.proofs.LineSteps.{included_in_any_order}
 use Rattle.lgc_prove.specs.Answers.{Decides}
 use Rattle.lgc_prove.specs.Work.{Proves, IsAnsweredBy, AreAppendedFor, atoms_with_values}
-use Rattle.lgc_prove.proofs.GoalFormulas.{all_of_goal_at}
+use Rattle.lgc_goals.proofs.GoalFormulas.{all_of_goal_at}
 use Rattle.lgc_meaning.proofs.AtomLaws.{atoms_fit, same_values}
 use Rattle.lgc_prove.proofs.AtomLaws.{lists_atoms}
 

@@ -1,5 +1,4 @@
 pub mod OneByOne
-pub mod GoalFormulas
 pub mod AtomLaws
 pub mod LineLaws
 pub mod EvidenceLaws

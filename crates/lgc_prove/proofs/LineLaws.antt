@@ -22,7 +22,7 @@ use Rattle.lgc_proofs.specs.Reasons.{IsPlainReason}
 use Rattle.lgc_proofs.specs.Found.{AreAppended}
 use Rattle.lgc_prove.specs.Answers.{IsPartOf}
 use Rattle.lgc_prove.specs.Work.{AreLinesBy, AreAppendedFor}
-use Rattle.lgc_prove.proofs.GoalFormulas.{all_of_goal_at}
+use Rattle.lgc_goals.proofs.GoalFormulas.{all_of_goal_at}
 
 -- what is true of each is true of some that has a property
 pub some_of_all : {X : Type 0} (P Q : X → Type 0) (xs : List X) → All P xs → Any Q xs → (x : X) × P x × Q x

@@ -21,7 +21,8 @@ use Rattle.lgc_formulas.specs.declared.formula.TheConstants.{MOST_NODES}
 use Rattle.lgc_formulas.specs.FormulaTexts.{text_setting}
 use Rattle.lgc_query_trip.proofs.Subformulas.{query_subformula_writable}
 use Rattle.lgc_report.specs.Writable.{IsReadable}
-use Rattle.lgc_prove.specs.Answers.{IsAsked, IsPartOf}
+use Rattle.lgc_queries.specs.Asked.{IsAsked}
+use Rattle.lgc_prove.specs.Answers.{IsPartOf}
 
 -- ---- lists
 

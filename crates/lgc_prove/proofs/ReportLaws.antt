@@ -25,7 +25,8 @@ use Rattle.lgc_report.specs.Valid.{ArePositions}
 use Rattle.lgc_proofs.specs.Alike.{AreAlike}
 use Rattle.lgc_proofs.specs.Proofs.{AreDistinct}
 use Rattle.lgc_proofs.specs.Reasons.{IsPlainReason}
-use Rattle.lgc_prove.specs.Answers.{IsAsked, IsPartOf, AnswersQueries}
+use Rattle.lgc_queries.specs.Asked.{IsAsked}
+use Rattle.lgc_prove.specs.Answers.{IsPartOf, AnswersQueries}
 use Rattle.lgc_prove.specs.ByUse.{renumbered_reason, renumbered, IsByUse}
 use Rattle.lgc_prove.specs.Work.{ArePartsOf, AreAnswers}
 use Rattle.lgc_prove.proofs.LineLaws.{some_of_all}

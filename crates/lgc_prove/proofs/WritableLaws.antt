@@ -42,7 +42,9 @@ use Rattle.lgc_report.specs.Reports.{PlainNumbered, PlainClaim, answer, holds, P
 use Rattle.lgc_report.specs.Valid.{IsIncludedAt, CitesGoals, IsEvidence, IsValidClaim}
 use Rattle.lgc_report.specs.Writable.{IsReadable, IsWritableLine, IsWritableEvidence, IsWritableClaim, IsWritableReport}
 use Rattle.lgc_proofs.specs.Reasons.{IsPlainReason}
-use Rattle.lgc_prove.specs.Answers.{IsAsked, IsSatisfiedEverywhere, IsAnswerTo, IsPartOf, AnswersQueries}
+use Rattle.lgc_meaning.specs.Satisfied.{IsSatisfiedEverywhere}
+use Rattle.lgc_queries.specs.Asked.{IsAsked}
+use Rattle.lgc_prove.specs.Answers.{IsAnswerTo, IsPartOf, AnswersQueries}
 use Rattle.lgc_prove.specs.AnswerText.{is_proved}
 use Rattle.lgc_prove.proofs.Parts.{atom_is_part, part_readable, part_propositional}
 

@@ -9,7 +9,8 @@ use Rattle.lgc_report.specs.ReportText.{report_text}
 use Rattle.lgc_report.specs.Writable.{IsWritableReport}
 use Rattle.lgc_report_reader.specs.declared.report.TheConstants.{LONGEST_REPORT}
 use Rattle.lgc_report_reader.specs.ReportFile.{IsReportOf}
-use Rattle.lgc_prove.specs.Answers.{IsSatisfiedEverywhere, AnswersQueries}
+use Rattle.lgc_meaning.specs.Satisfied.{IsSatisfiedEverywhere}
+use Rattle.lgc_prove.specs.Answers.{AnswersQueries}
 
 -- whether a claim says that a query is proved
 abbrev pub is_proved : PlainClaim → Bool

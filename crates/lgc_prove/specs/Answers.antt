@@ -1,20 +1,14 @@
 -- When a report answers queries.
-use Rattle.std.specs.Prelude.{◌≡◌, ◌≤◌, ℕ, true, List, length, All, AllPairs}
+use Rattle.std.specs.Prelude.{◌≡◌, List, length, All, AllPairs}
 use Rattle.std.specs.List.{Any, AllZip}
 use Rattle.lgc_values.specs.Logic.{Logic}
 use Rattle.lgc_clauses.specs.Irredundance.{IsIrredundant}
 use Rattle.lgc_syntax.specs.declared.formula.Formula.{Formula}
 use Rattle.lgc_syntax.specs.Subformulas.{IsSubformula}
-use Rattle.lgc_syntax.specs.Values.{value, IsValuation}
 use Rattle.lgc_meaning.specs.declared.query.Query.{Query}
 use Rattle.lgc_meaning.specs.Queries as queries
-use Rattle.lgc_meaning.specs.Queries.{IsPropositional, satisfies}
+use Rattle.lgc_meaning.specs.Satisfied.{IsSatisfiedEverywhere}
 use Rattle.lgc_sequents.specs.Lines as lines
-use Rattle.lgc_formulas.specs.declared.formula.TheConstants.{MOST_NODES}
-use Rattle.lgc_formulas.specs.FormulaTexts.{text_setting}
-use Rattle.lgc_goals.specs.declared.TheConstants.{MOST_GOALS}
-use Rattle.lgc_goals.specs.Goals.{goal_count}
-use Rattle.lgc_queries.specs.WritableQueries.{IsWritableQuery}
 use Rattle.lgc_report.specs.declared.report.Evidence.{Evidence}
 use Rattle.lgc_report.specs.declared.report.Evidence.TheVariants.{Proved, Refuted, Unfinished}
 use Rattle.lgc_report.specs.Reports.{PlainClaim, answer, holds, PlainReport, FitsReport}
@@ -22,16 +16,6 @@ use Rattle.lgc_report.specs.Valid.{IsValid}
 use Rattle.lgc_proofs.specs.Alike.{AreAlike}
 use Rattle.lgc_proofs.specs.Reasons.{IsPlainReason}
 use Rattle.lgc_prove.specs.ByUse.{AreByUse}
-
--- what is asked of a query that is to be answered: it can be written, and has no quantifier and not too many goals
-pub record IsAsked (logic : Logic) (query : Query) : Type 0 where
-  pub writable : IsWritableQuery (text_setting logic) MOST_NODES query
-  pub propositional : IsPropositional query
-  pub few : goal_count logic.size query ≤ MOST_GOALS
-
--- every valuation satisfies a query
-abbrev pub IsSatisfiedEverywhere : Logic → Query → Type 0
-IsSatisfiedEverywhere logic query = (v : Formula → ℕ) → IsValuation logic v → satisfies logic.size (value logic v) query ≡ true
 
 -- it is proved where every valuation satisfies it, and else refuted
 abbrev pub Decides : Logic → Query → Evidence → Type 0

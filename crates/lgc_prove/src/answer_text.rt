@@ -2,7 +2,7 @@
 ghost use Rattle.std.specs.Prelude.{◌≡◌, ◌<◌, ◌^◌, length, map, All, IfOk};
 ghost use Rattle.std.specs.List.{list_all};
 ghost use Rattle.lgc_report.specs.Reports.{plain_claim};
-ghost use Rattle.lgc_prove.specs.Answers.{IsAsked};
+ghost use Rattle.lgc_queries.specs.Asked.{IsAsked};
 ghost use Rattle.lgc_prove.specs.AnswerText.{is_proved, IsAnswerText};
 
 use crate::answer_queries;

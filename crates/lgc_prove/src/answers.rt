@@ -2,7 +2,8 @@
 ghost use Rattle.std.specs.Prelude.{◌≡◌, ◌<◌, ◌^◌, [], length, map, All, IfOk};
 ghost use Rattle.lgc_calculus.specs.RuleBook.{IsRightBook};
 ghost use Rattle.lgc_report.specs.Reports.{plain_claim, plain_report};
-ghost use Rattle.lgc_prove.specs.Answers.{IsAsked, AnswersQueries};
+ghost use Rattle.lgc_queries.specs.Asked.{IsAsked};
+ghost use Rattle.lgc_prove.specs.Answers.{AnswersQueries};
 ghost use Rattle.lgc_prove.specs.Work.{AreAnswers};
 
 use crate::by_use::by_use;

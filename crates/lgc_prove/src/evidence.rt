@@ -3,7 +3,7 @@ ghost use Rattle.std.specs.Prelude.{◌≡◌, ◌<◌, All, IfOk, OnOk};
 ghost use Rattle.lgc_syntax.specs.Values.{listed};
 ghost use Rattle.lgc_meaning.specs.Queries.{FitsQuery, IsPropositional};
 ghost use Rattle.lgc_goals.specs.Goals.{goal_count};
-ghost use Rattle.lgc_prove.specs.Answers.{IsAsked};
+ghost use Rattle.lgc_queries.specs.Asked.{IsAsked};
 ghost use Rattle.lgc_prove.specs.Work.{IsFoundAt, IsAnsweredBy, AreLinesBy, AreAppendedFor, atoms_with_values};
 
 use lgc_calculus::RuleBook;

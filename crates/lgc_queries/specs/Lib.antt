@@ -9,3 +9,4 @@ pub mod FileReading
 pub mod Limits
 pub mod QueryText
 pub mod WritableQueries
+pub mod Asked

@@ -48,8 +48,10 @@ fn put_item<const N: usize>(
     put_set(m.names(), item.sign, into)
 }
 
+/// Puts the items of a sequent, as `p^{t}, q^{f}`, behind what `into` holds; nothing where there are none. The formulas are less than `2^32` deep.
+/// Where memory runs out, `into` may have a part of it.
 #[tactic(auto, unfolding(crate::specs::ReportText::sequent_text), using(std::proofs::lemmas::Grind::common_steps, lgc_print::proofs::TextLaws::joined_more, lgc_print::proofs::TextLaws::between_more))]
-fn put_sequent<const N: usize>(
+pub fn put_sequent<const N: usize>(
     alloc: Global,
     m: &Matrix<N>,
     items: &[Signed<N>],
@@ -232,8 +234,10 @@ fn put_entry<const N: usize>(
     put_value(names[value as usize].bytes(), into)
 }
 
+/// Puts the values of atoms, as `p: u, q: f`, behind what `into` holds. The atoms are less than `2^32` deep, and the values are truth values. Where
+/// memory runs out, `into` may have a part of it.
 #[tactic(auto, using(std::proofs::lemmas::Grind::common_steps, lgc_print::proofs::TextLaws::joined_more, lgc_print::proofs::TextLaws::between_more))]
-fn put_entries<const N: usize>(
+pub fn put_entries<const N: usize>(
     alloc: Global,
     m: &Matrix<N>,
     entries: &[(Formula, u8)],

@@ -15,7 +15,7 @@ use Rattle.lgc_queries.specs.QueryFile as queries
 use Rattle.lgc_queries.specs.Limits.{IsFileQuery}
 use Rattle.lgc_queries.proofs.QueryFiles.{file_of}
 use Rattle.lgc_query_trip.proofs.ReadQueries.{read_queries_writable}
-use Rattle.lgc_prove.specs.Answers.{IsAsked}
+use Rattle.lgc_queries.specs.Asked.{IsAsked}
 use Rattle.lgc_prove.specs.AnswerText.{IsAnswerText}
 use Rattle.lgc_top.proofs.FewQueries.{few_queries}
 use Rattle.lgc_report.specs.declared.report.Report.{Report}

@@ -16,7 +16,7 @@ use Rattle.lgc_syntax.specs.declared.fault.InputFault.{InputFault}
 use Rattle.lgc_syntax.specs.declared.fault.InputFault.TheVariants as input
 use Rattle.lgc_meaning.specs.declared.query.Query.{Query}
 use Rattle.lgc_verify.specs.Verdicts.{IsRight}
-use Rattle.lgc_prove.specs.Answers.{IsSatisfiedEverywhere}
+use Rattle.lgc_meaning.specs.Satisfied.{IsSatisfiedEverywhere}
 use Rattle.lgc_rules.proofs.Tops as rules
 use Rattle.lgc_queries.proofs.QueryFiles as queries
 use Rattle.lgc_report.specs.declared.report.Report.{Report}

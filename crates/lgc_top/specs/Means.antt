@@ -10,7 +10,7 @@ use Rattle.lgc_spec.specs.Logics.{logic_of}
 use Rattle.lgc_spec.specs.Specification.{BytesGive}
 use Rattle.lgc_syntax.specs.declared.fault.InputFault.{InputFault}
 use Rattle.lgc_verify.specs.Verdicts.{IsRight}
-use Rattle.lgc_prove.specs.Answers.{IsSatisfiedEverywhere}
+use Rattle.lgc_meaning.specs.Satisfied.{IsSatisfiedEverywhere}
 use Rattle.lgc_report.specs.Reports.{plain_report}
 use Rattle.lgc_report.specs.Valid.{IsValid}
 use Rattle.lgc_top.specs.declared.status.Status.{Status}

@@ -7,7 +7,8 @@ use Rattle.lgc_report.specs.declared.report.Claim.{Claim}
 use Rattle.lgc_report.specs.declared.report.Report.{Report}
 use Rattle.lgc_report.specs.Reports.{PlainReport, plain_claim, plain_report}
 use Rattle.lgc_report_reader.specs.ReportFile.{IsReportOf}
-use Rattle.lgc_prove.specs.Answers.{IsSatisfiedEverywhere, AnswersQueries}
+use Rattle.lgc_meaning.specs.Satisfied.{IsSatisfiedEverywhere}
+use Rattle.lgc_prove.specs.Answers.{AnswersQueries}
 use Rattle.lgc_prove.specs.AnswerText.{is_proved, IsReadAs}
 use Rattle.lgc_prove.proofs.WritableLaws.{answers_writable, all_decided}
 use Rattle.lgc_prove.proofs.answer_text.prove_queries.Goals as goal

@@ -5,7 +5,7 @@ use Rattle.std.specs.Vec.Iter.{into_iter_items}
 use Rattle.std.proofs.lemmas.List.{length-map, length_push, map_push}
 use Rattle.lgc_report.specs.declared.report.Claim.TheVariants.{Answer}
 use Rattle.lgc_report.specs.Reports.{plain_claim}
-use Rattle.lgc_prove.specs.Answers.{IsAsked}
+use Rattle.lgc_queries.specs.Asked.{IsAsked}
 use Rattle.lgc_prove.proofs.OneByOne.{one_more_taken, next_item}
 use Rattle.lgc_prove.proofs.ClaimLaws.{one_more_answer}
 use Rattle.lgc_prove.proofs.answers.claims_for.Goals as goal

@@ -7,7 +7,7 @@ use Rattle.lgc_goals.specs.Goals.{goals_of}
 use Rattle.lgc_proofs.specs.declared.found.Found.{Found}
 use Rattle.lgc_proofs.specs.Found.{IsFound}
 use Rattle.lgc_prove.specs.Work.{AreLinesBy, AreAppendedFor}
-use Rattle.lgc_prove.proofs.GoalFormulas.{all_of_goal_at}
+use Rattle.lgc_goals.proofs.GoalFormulas.{all_of_goal_at}
 use Rattle.lgc_prove.proofs.LineLaws.{lines_appended, appended_for_goal}
 use Rattle.lgc_prove.proofs.evidence.found_at.Goals as goal
 
