@@ -42,7 +42,8 @@ use Rattle.lgc_lemmas.specs.Steps.{AreSteps}
 use Rattle.lgc_lemmas.specs.Answers.{IsProvedBy, IsRefutedBy}
 use Rattle.lgc_lemmas.proofs.Truth.{all_at, exact_rules, lemmas_true}
 use Rattle.lgc_decision.specs.Atoms.{IsEntryBelow, HasAtomsBelow}
-use Rattle.lgc_decision.specs.Decided.{AreSubformulasOf, IsTrueEverywhere, IsCounterexample, IsProvedFrom}
+use Rattle.lgc_sequents.specs.Everywhere.{IsTrueEverywhere, IsCounterexample}
+use Rattle.lgc_decision.specs.Decided.{AreSubformulasOf, IsProvedFrom}
 use Rattle.lgc_decision.proofs.Formed.{all_formed}
 
 -- ---- values of atoms

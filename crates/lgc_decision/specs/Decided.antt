@@ -1,13 +1,12 @@
 -- What is decided of a goal: lemmas of which it includes one, or a valuation under which it is false.
-use Rattle.std.specs.Prelude.{◌≡◌, ◌<◌, ℕ, true, false, List, [], All, Any, slice_get, Some}
+use Rattle.std.specs.Prelude.{◌≡◌, ℕ, true, List, [], All, Any, slice_get, Some}
 use Rattle.lgc_values.specs.Logic.{Logic}
 use Rattle.lgc_clauses.specs.Rules.{OperatorRule}
 use Rattle.lgc_syntax.specs.declared.formula.Formula.{Formula}
-use Rattle.lgc_syntax.specs.Fits.{Fits}
 use Rattle.lgc_syntax.specs.Subformulas.{IsSubformula}
-use Rattle.lgc_syntax.specs.Values.{listed, value, IsValuation}
 use Rattle.lgc_sequents.specs.Signed.{SignedFormula}
-use Rattle.lgc_sequents.specs.Sequents.{is_included, is_true_at}
+use Rattle.lgc_sequents.specs.Sequents.{is_included}
+use Rattle.lgc_sequents.specs.Everywhere.{IsTrueEverywhere, IsCounterexample}
 use Rattle.lgc_numbering.specs.declared.node.Node.{Node}
 use Rattle.lgc_numbering.specs.Numbering.{IsNumbering, AreNodesOf}
 use Rattle.lgc_packed.specs.Packed.{unpacked}
@@ -20,15 +19,6 @@ use Rattle.lgc_decision.specs.declared.decided.Decided.TheVariants.{Proved, Refu
 -- each formula is a subformula of one of the goal's
 abbrev pub AreSubformulasOf : List SignedFormula → List Formula → Type 0
 AreSubformulasOf goal formulas = All (λ f. Any (λ item. IsSubformula f item.formula) goal) formulas
-
--- a sequent is true under every valuation
-abbrev pub IsTrueEverywhere : Logic → List SignedFormula → Type 0
-IsTrueEverywhere logic sequent = (v : Formula → ℕ) → IsValuation logic v → is_true_at (value logic v) sequent ≡ true
-
--- formulas of the logic with truth values, under which a sequent is false
-pub record IsCounterexample (logic : Logic) (sequent : List SignedFormula) (entries : List (Formula × ℕ)) : Type 0 where
-  pub fit : All (λ entry. Fits logic entry.0 × (entry.1 < logic.size)) entries
-  pub fails : is_true_at (value logic (listed entries)) sequent ≡ false
 
 -- lemmas over numbered formulas are steps by rules
 pub record AreLemmas (logic : Logic) (rules : List OperatorRule) (formulas : List Formula) (lemmas : List PlainLemma) : Type 0 where

@@ -8,7 +8,8 @@ use Rattle.lgc_sequents.specs.Signed.{SignedFormula}
 use Rattle.lgc_sequents.specs.Lines.{PlainLine, sequent_at, formulas_of}
 use Rattle.lgc_sequents.specs.Steps.{AreSteps}
 use Rattle.lgc_sequents.specs.Rests.{cited_by}
-use Rattle.lgc_decision.specs.Decided.{AreSubformulasOf, IsTrueEverywhere, IsCounterexample}
+use Rattle.lgc_sequents.specs.Everywhere.{IsTrueEverywhere, IsCounterexample}
+use Rattle.lgc_decision.specs.Decided.{AreSubformulasOf}
 use Rattle.lgc_proofs.specs.declared.found.Found.{Found}
 use Rattle.lgc_proofs.specs.declared.found.Found.TheVariants.{Line, Refuted}
 use Rattle.lgc_proofs.specs.Proofs.{HasItems}

@@ -29,7 +29,7 @@ use Rattle.lgc_sequents.proofs.RestLaws.{none_pending}
 use Rattle.lgc_report.specs.declared.report.Evidence.{Evidence}
 use Rattle.lgc_report.specs.declared.report.Evidence.TheVariants.{Proved, Refuted, Unfinished}
 use Rattle.lgc_report.specs.Valid.{IsIncludedAt, IsEvidence}
-use Rattle.lgc_decision.specs.Decided.{IsCounterexample}
+use Rattle.lgc_sequents.specs.Everywhere.{IsCounterexample}
 use Rattle.lgc_proofs.specs.Reasons.{IsPlainReason}
 use Rattle.lgc_proofs.specs.Found.{IsProvedAt}
 use Rattle.lgc_proofs.proofs.LineSteps.{included_in_any_order}

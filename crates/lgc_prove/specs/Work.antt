@@ -18,7 +18,7 @@ use Rattle.lgc_sequents.specs.Steps.{AreSteps}
 use Rattle.lgc_report.specs.declared.report.Evidence.{Evidence}
 use Rattle.lgc_report.specs.Reports.{PlainClaim, number_of, FitsEvidence, FitsClaim}
 use Rattle.lgc_report.specs.Valid.{IsIncludedAt, IsEvidence, IsValidClaim, ArePositions}
-use Rattle.lgc_decision.specs.Decided.{IsTrueEverywhere}
+use Rattle.lgc_sequents.specs.Everywhere.{IsTrueEverywhere}
 use Rattle.lgc_proofs.specs.declared.found.Found.{Found}
 use Rattle.lgc_proofs.specs.Reasons.{IsPlainReason}
 use Rattle.lgc_proofs.specs.Found.{IsFound}

@@ -3,3 +3,4 @@ pub mod Sequents
 pub mod Lines
 pub mod Steps
 pub mod Rests
+pub mod Everywhere

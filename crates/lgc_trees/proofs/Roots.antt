@@ -19,7 +19,8 @@ use Rattle.lgc_sequents.specs.declared.line.Reason.TheVariants.{Axiom, Pending, 
 use Rattle.lgc_sequents.proofs.StepLaws.{at_position_within, operator_step_grown}
 use Rattle.lgc_sequents.proofs.RestLaws.{All-at_position}
 use Rattle.lgc_derivations.specs.Derivations.{Tree}
-use Rattle.lgc_decision.specs.Decided.{AreSubformulasOf, IsTrueEverywhere}
+use Rattle.lgc_sequents.specs.Everywhere.{IsTrueEverywhere}
+use Rattle.lgc_decision.specs.Decided.{AreSubformulasOf}
 use Rattle.lgc_proofs.specs.Reasons.{IsPlainReason}
 use Rattle.lgc_proofs.specs.Found.{operators, CitesLighter, AreAppended, IsProvedAt}
 use Rattle.lgc_proofs.proofs.Appending.{own_subformulas}

@@ -4,7 +4,8 @@ use Rattle.lgc_values.specs.Logic.{Logic}
 use Rattle.lgc_clauses.specs.Rules.{OperatorRule, of_operator}
 use Rattle.lgc_sequents.specs.Signed.{SignedFormula}
 use Rattle.lgc_derivations.specs.Derivations.{Tree, conclusion_of, formulas_of, most_steps, IsRight}
-use Rattle.lgc_decision.specs.Decided.{AreSubformulasOf, IsTrueEverywhere, IsCounterexample}
+use Rattle.lgc_sequents.specs.Everywhere.{IsTrueEverywhere, IsCounterexample}
+use Rattle.lgc_decision.specs.Decided.{AreSubformulasOf}
 use Rattle.lgc_proofs.specs.Found.{operators}
 use Rattle.lgc_trees.specs.declared.outcome.Outcome.{Outcome}
 use Rattle.lgc_trees.specs.declared.outcome.Outcome.TheVariants.{Derived, Refuted}
