@@ -1,0 +1,5 @@
+pub mod AmongLaws
+pub mod ClauseLaws
+pub mod MarkLaws
+pub mod ReductionLaws
+pub mod Walking

@@ -1,0 +1,4 @@
+pub mod AtomClauses
+pub mod LeastClauses
+pub mod Reductions
+pub mod Marks
