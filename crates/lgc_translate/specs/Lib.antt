@@ -1,0 +1,4 @@
+pub mod Translation
+pub mod Covering
+pub mod SignedClauses
+pub mod Words
