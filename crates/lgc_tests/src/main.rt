@@ -33,7 +33,7 @@ mod tests;
 use std::{fs, io};
 use table::Table;
 
-const TABLES: [&str; 11] = [
+const TABLES: [&str; 12] = [
     "commands.txt",
     "calculus.txt",
     "latex.txt",
@@ -43,6 +43,7 @@ const TABLES: [&str; 11] = [
     "formulas.txt",
     "queries.txt",
     "prove.txt",
+    "clauses.txt",
     "check.txt",
     "report_faults.txt",
 ];

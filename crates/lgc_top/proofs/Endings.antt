@@ -25,8 +25,9 @@ use Rattle.lgc_top.specs.Check.{ReportGiven, IsVerdictOn}
 use Rattle.lgc_top.specs.Steps.{on_both, limit_of, verdict_status, answer_status}
 use Rattle.lgc_spec.specs.declared.spec.Spec.{Spec}
 use Rattle.lgc_spec.specs.Logics.{logic_of}
-use Rattle.lgc_top.specs.Commands.{Command, Calculus, Verify, Prove, Check, spec_of, input_of, command_of}
-use Rattle.lgc_top.specs.Run.{Run, HasInput, HasInputFault, WorksOn, CommandAnswers, Answers, Ends, WordsAnswer, PrintsCalculus, PrintsOn, PrintsVerdicts, PrintsReport, PrintsVerdictOn, IsSoundFor}
+use Rattle.lgc_top.specs.Clauses.{IsClausesOn}
+use Rattle.lgc_top.specs.Commands.{Command, Calculus, Verify, Prove, Check, Clauses, spec_of, input_of, command_of}
+use Rattle.lgc_top.specs.Run.{Run, HasInput, HasInputFault, WorksOn, CommandAnswers, Answers, Ends, WordsAnswer, PrintsCalculus, PrintsOn, PrintsVerdicts, PrintsReport, PrintsVerdictOn, PrintsClauses, IsSoundFor}
 
 -- what the output gained
 module _ (run : Run) where
@@ -73,6 +74,9 @@ module _ (run : Run) where
   pub prints_invalid : (file report : List ℕ) (ended : Status) → Ends run ended → command_of run.words ≡ Some (Check file report) → ended ≡ Rejected → PrintsVerdictOn run file report false
   prints_invalid file report ended = prints_on (Check file report) Rejected ended (λ logic bytes line. IsVerdictOn logic false bytes line) rejected (λ text answers. answers.1)
 
+  pub prints_clauses : (file queries : List ℕ) (ended : Status) → Ends run ended → command_of run.words ≡ Some (Clauses file queries) → ended ≡ Done → PrintsClauses run file queries
+  prints_clauses file queries ended = prints_on (Clauses file queries) Done ended IsClausesOn done (λ text answers. answers.1)
+
   -- what is accepted is sound
   pub sound_accepted : (file report : List ℕ) (ended : Status) → Ends run ended → command_of run.words ≡ Some (Check file report) → ended ≡ Done → IsSoundFor run file report
   sound_accepted file report ended ends asks is =
@@ -108,17 +112,20 @@ pub long_input : (work : Work) (file name : List ℕ) (logic : Logic) (bytes : L
 long_input work.Verify file name logic bytes long = long_rules logic bytes long
 long_input work.Prove file name logic bytes long = long_queries logic bytes long
 long_input work.Check file name logic bytes long = long_report logic bytes long
+long_input work.Clauses file name logic bytes long = long_queries logic bytes long
 
 -- the files of work on two files
 pub spec_of-on_both : (work : Work) (file name : List ℕ) → spec_of (on_both work file name) ≡ file
 spec_of-on_both work.Verify file name = refl
 spec_of-on_both work.Prove file name = refl
 spec_of-on_both work.Check file name = refl
+spec_of-on_both work.Clauses file name = refl
 
 pub input_of-on_both : (work : Work) (file name : List ℕ) → input_of (on_both work file name) ≡ Some name
 input_of-on_both work.Verify file name = refl
 input_of-on_both work.Prove file name = refl
 input_of-on_both work.Check file name = refl
+input_of-on_both work.Clauses file name = refl
 
 -- the lines on rules answer the words, under the status by whether all rules are right
 pub lines_answer : (file rules : List ℕ) (files files_after : FilesState) (spec : Spec) (bytes text : List ℕ) (right : Bool) (status : Status) → files_after ≡ files → status ≡ verdict_status right → HasInput (Verify file rules) files spec bytes → IsVerdictText (logic_of spec) right bytes text → CommandAnswers (Verify file rules) files files_after status text

@@ -23,7 +23,9 @@ use Rattle.lgc_report.specs.Reports.{plain_report}
 use Rattle.lgc_report_reader.specs.ReportFile.{ReportGives}
 use Rattle.lgc_check.specs.VerdictText.{IsTold}
 use Rattle.lgc_top.specs.Check.{ReportGiven, IsVerdictOn, ChecksBytes}
-use Rattle.lgc_top.specs.Prove.{QueriesGiven, IsReportOn, ReportsOnBytes}
+use Rattle.lgc_top.specs.Prove.{QueriesGiven, QueriesRefused, IsReportOn}
+use Rattle.lgc_top.specs.Clauses.{IsClausesOn}
+use Rattle.lgc_clause_text.specs.ClausesText.{IsClausesText}
 use Rattle.lgc_top.specs.Verify.{RulesGiven, IsVerdictText, JudgesBytes}
 
 abbrev pub queries_failed : InputFault → Result (List Query) InputFault
@@ -58,7 +60,10 @@ module _ (m logic : Logic) (same : m ≡ logic) (bytes : List ℕ) where
   pub reported : (all_proved : Bool) (text : List ℕ) (asked : List Query) → queries.FileGives m bytes (Ok asked) → IsAnswerText m asked all_proved text → IsReportOn logic all_proved bytes text
   reported all_proved text asked given answers = subst (λ (l : Logic). IsReportOn l all_proved bytes text) same (record { queries = asked; given = given; answers = answers })
 
-  pub queries_refused : (fault : InputFault) → Holds (queries.FileGives m bytes) (queries_failed fault) → ReportsOnBytes logic bytes (Err fault)
+  pub clauses_told : (text : List ℕ) (asked : List Query) → queries.FileGives m bytes (Ok asked) → IsClausesText m asked text → IsClausesOn logic bytes text
+  clauses_told text asked given told = subst (λ (l : Logic). IsClausesOn l bytes text) same (record { queries = asked; given = given; clauses = told })
+
+  pub queries_refused : (fault : InputFault) → Holds (queries.FileGives m bytes) (queries_failed fault) → QueriesRefused logic bytes fault
   queries_refused Memory given = tt
   queries_refused (Fault number offset) given = subst (λ (l : Logic). QueriesGiven l bytes (Err (Fault number offset))) same given
 

@@ -25,7 +25,7 @@ use Rattle.lgc_report.specs.Valid.{IsValid}
 use Rattle.lgc_report_reader.proofs.ReportFiles as reports
 use Rattle.lgc_top.specs.declared.status.Status.{Status}
 use Rattle.lgc_top.specs.declared.status.Status.TheVariants.{Done, Refuted, Usage, BadSpec, BadInput, Rejected, ReadFault, WriteFault, Memory}
-use Rattle.lgc_top.specs.Commands.{Command, Calculus, Verify, Prove, Check, spec_of, input_of}
+use Rattle.lgc_top.specs.Commands.{Command, Calculus, Verify, Prove, Check, Clauses, spec_of, input_of}
 use Rattle.lgc_top.specs.Verify.{RulesGiven}
 use Rattle.lgc_top.specs.Prove.{QueriesGiven}
 use Rattle.lgc_top.specs.Check.{ReportGiven}
@@ -57,6 +57,9 @@ module _ (command : Command) (files : FilesState) (status : Status) where
 abbrev is_right : (logic : Logic) → List (Rule logic.size) → Type 0
 is_right logic rules = All (IsRight logic) (map plain_rule rules)
 
+abbrev any_queries : List Query → Type 0
+any_queries queries = Unit {0}
+
 abbrev is_valid : (logic : Logic) → Report logic.size → Type 0
 is_valid logic report = IsValid logic (plain_report report)
 
@@ -81,6 +84,9 @@ works_mean (Check file report) files Rejected line (spec, bytes, has, verdict) =
     with_spec (Check file report) files Rejected spec has.logic (with_input (Check file report) files Rejected report refl spec bytes has (ReportGiven (logic_of spec)) (is_valid (logic_of spec)) Rejected (Ok verdict.report) verdict.given
     (inr ((λ valid. let no : false ≡ true = verdict.told.valid.1 valid in absurd cc), refl)))
 works_mean (Check file report) files _ line h = absurd h
+works_mean (Clauses file queries) files Done text (spec, bytes, has, told) =
+    with_spec (Clauses file queries) files Done spec has.logic (with_input (Clauses file queries) files Done queries refl spec bytes has (QueriesGiven (logic_of spec)) any_queries Done (Ok told.queries) told.given (inl (tt, refl)))
+works_mean (Clauses file queries) files _ text h = absurd h
 
 faults_mean : (command : Command) (files : FilesState) (line : List ℕ) → FilesAnswer command files BadInput line → CommandMeans (Holds files) command BadInput
 faults_mean (Calculus format file) files line (spec, bytes, has, fault) = absurd fault.given
@@ -90,6 +96,8 @@ faults_mean (Prove file queries) files line (spec, bytes, has, fault) =
     with_spec (Prove file queries) files BadInput spec has.logic (with_input (Prove file queries) files BadInput queries refl spec bytes has (QueriesGiven (logic_of spec)) (All (IsSatisfiedEverywhere (logic_of spec))) Refuted (Err (input.Fault fault.number fault.offset)) fault.given refl)
 faults_mean (Check file report) files line (spec, bytes, has, fault) =
     with_spec (Check file report) files BadInput spec has.logic (with_input (Check file report) files BadInput report refl spec bytes has (ReportGiven (logic_of spec)) (is_valid (logic_of spec)) Rejected (Err (input.Fault fault.number fault.offset)) fault.given refl)
+faults_mean (Clauses file queries) files line (spec, bytes, has, fault) =
+    with_spec (Clauses file queries) files BadInput spec has.logic (with_input (Clauses file queries) files BadInput queries refl spec bytes has (QueriesGiven (logic_of spec)) any_queries Done (Err (input.Fault fault.number fault.offset)) fault.given refl)
 
 answers_mean : (command : Command) (files files_after : FilesState) (status : Status) (bytes : List ℕ) → CommandAnswers command files files_after status bytes → (status ≡ ReadFault → ⊥) → CommandMeans (Holds files) command status
 answers_mean command files files_after ReadFault line h other = absurd (other refl)
@@ -136,6 +144,7 @@ module _ (files : FilesState) where
   spec_once (Verify file rules) (Ok spec) a b p q = input_once rules (RulesGiven (logic_of spec)) (is_right (logic_of spec)) Rejected (rules_once (logic_of spec)) a b p q
   spec_once (Prove file queries) (Ok spec) a b p q = input_once queries (QueriesGiven (logic_of spec)) (All (IsSatisfiedEverywhere (logic_of spec))) Refuted (queries_once (logic_of spec)) a b p q
   spec_once (Check file report) (Ok spec) a b p q = input_once report (ReportGiven (logic_of spec)) (is_valid (logic_of spec)) Rejected (report_once (logic_of spec)) a b p q
+  spec_once (Clauses file queries) (Ok spec) a b p q = input_once queries (QueriesGiven (logic_of spec)) any_queries Done (queries_once (logic_of spec)) a b p q
 
   means_once : (command : Command) (a b : Status) → CommandMeans (Holds files) command a → CommandMeans (Tells files) command b → a ≡ b
   means_once command a b (bytes, found, held, gives, p) (other, also, told, given, q) =

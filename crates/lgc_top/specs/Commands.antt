@@ -13,6 +13,8 @@ pub data Command : Type 0 where
   Prove : List ℕ → List ℕ → Command
   -- tell whether the report in the second file is valid for the logic of the first
   Check : List ℕ → List ℕ → Command
+  -- tell the signed clauses of the queries of the second file, for the logic of the first
+  Clauses : List ℕ → List ℕ → Command
 
 -- the name of the file of the specification
 abbrev pub spec_of : Command → List ℕ
@@ -20,6 +22,7 @@ spec_of (Calculus format spec) = spec
 spec_of (Verify spec rules) = spec
 spec_of (Prove spec queries) = spec
 spec_of (Check spec report) = spec
+spec_of (Clauses spec queries) = spec
 
 -- the name of the second file
 abbrev pub input_of : Command → Option (List ℕ)
@@ -27,6 +30,7 @@ input_of (Calculus format spec) = None
 input_of (Verify spec rules) = Some rules
 input_of (Prove spec queries) = Some queries
 input_of (Check spec report) = Some report
+input_of (Clauses spec queries) = Some queries
 
 -- nonempty, and not beginning with `-`
 abbrev pub is_file_name : List ℕ → Bool
@@ -39,7 +43,12 @@ command_on format word spec = if pointwise nat_eq word (codes "calculus") && is_
 
 -- the command of a word and two names
 abbrev pub command_named : List ℕ → List ℕ → List ℕ → Option Command
-command_named word spec input = if pointwise nat_eq word (codes "verify") then Some (Verify spec input) else (if pointwise nat_eq word (codes "prove") then Some (Prove spec input) else (if pointwise nat_eq word (codes "check") then Some (Check spec input) else None))
+command_named word spec input =
+    if pointwise nat_eq word (codes "verify") then Some (Verify spec input)
+    else (if pointwise nat_eq word (codes "prove") then Some (Prove spec input)
+    else (if pointwise nat_eq word (codes "check") then Some (Check spec input)
+    else (if pointwise nat_eq word (codes "clauses") then Some (Clauses spec input)
+    else None)))
 
 -- the same where both are names of files
 abbrev pub command_on_both : List ℕ → List ℕ → List ℕ → Option Command

@@ -3,6 +3,7 @@ pub mod Calculus
 pub mod Verify
 pub mod Prove
 pub mod Check
+pub mod Clauses
 pub mod Commands
 pub mod Run
 pub mod Means

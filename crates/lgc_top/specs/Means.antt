@@ -15,7 +15,7 @@ use Rattle.lgc_report.specs.Reports.{plain_report}
 use Rattle.lgc_report.specs.Valid.{IsValid}
 use Rattle.lgc_top.specs.declared.status.Status.{Status}
 use Rattle.lgc_top.specs.declared.status.Status.TheVariants.{Done, Refuted, BadSpec, BadInput, Rejected}
-use Rattle.lgc_top.specs.Commands.{Command, Calculus, Verify, Prove, Check, spec_of, command_of}
+use Rattle.lgc_top.specs.Commands.{Command, Calculus, Verify, Prove, Check, Clauses, spec_of, command_of}
 use Rattle.lgc_top.specs.Verify.{RulesGiven}
 use Rattle.lgc_top.specs.Prove.{QueriesGiven}
 use Rattle.lgc_top.specs.Check.{ReportGiven}
@@ -41,12 +41,13 @@ abbrev pub InputMeans : {A : Type 0} → (List ℕ → List ℕ → Type 0) → 
 InputMeans {A} Has file Gives Passes failing status = (bytes : List ℕ) × (told : Result A InputFault) × Has file bytes × Gives bytes told × GivenMeans Passes failing told status
 
 -- What a logic means for a command: rules pass where all of them are right, queries where every valuation satisfies all of them, and a report
--- where it is valid.
+-- where it is valid. The clauses of queries are told of any.
 abbrev pub LogicMeans : (List ℕ → List ℕ → Type 0) → Command → Logic → Status → Type 0
 LogicMeans Has (Calculus format file) logic status = status ≡ Done
 LogicMeans Has (Verify file rules) logic status = InputMeans Has rules (RulesGiven logic) (λ given. All (IsRight logic) (map plain_rule given)) Rejected status
 LogicMeans Has (Prove file queries) logic status = InputMeans Has queries (QueriesGiven logic) (All (IsSatisfiedEverywhere logic)) Refuted status
 LogicMeans Has (Check file report) logic status = InputMeans Has report (ReportGiven logic) (λ given. IsValid logic (plain_report given)) Rejected status
+LogicMeans Has (Clauses file queries) logic status = InputMeans Has queries (QueriesGiven logic) (λ given. Unit {0}) Done status
 
 -- What the bytes of a specification mean: a fault BadSpec, and else what its logic means.
 abbrev pub SpecMeans : (List ℕ → List ℕ → Type 0) → Command → Result Spec SpecFault → Status → Type 0

@@ -19,8 +19,12 @@ pub record IsReportOn (logic : Logic) (all_proved : Bool) (bytes text : List ℕ
   pub given : QueriesGiven logic bytes (Ok queries)
   pub answers : IsAnswerText logic queries all_proved text
 
+-- what the reader of a query file refuses for: the file's first fault, or want of memory
+abbrev pub QueriesRefused : Logic → List ℕ → InputFault → Type 0
+QueriesRefused logic bytes Memory = Unit {0}
+QueriesRefused logic bytes (Fault number offset) = QueriesGiven logic bytes (Err (Fault number offset))
+
 -- the text of a report on the queries of a query file, and whether all of them are proved; or the file's first fault
 abbrev pub ReportsOnBytes : Logic → List ℕ → Result Answered InputFault → Type 0
 ReportsOnBytes logic bytes (Ok answered) = IsReportOn logic answered.all_proved bytes answered.text.items
-ReportsOnBytes logic bytes (Err Memory) = Unit {0}
-ReportsOnBytes logic bytes (Err (Fault number offset)) = QueriesGiven logic bytes (Err (Fault number offset))
+ReportsOnBytes logic bytes (Err fault) = QueriesRefused logic bytes fault

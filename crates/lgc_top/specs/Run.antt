@@ -17,7 +17,8 @@ use Rattle.lgc_top.specs.Calculus.{IsCalculusText}
 use Rattle.lgc_top.specs.Verify.{RulesGiven, IsVerdictText}
 use Rattle.lgc_top.specs.Prove.{QueriesGiven, IsReportOn}
 use Rattle.lgc_top.specs.Check.{ReportGiven, IsVerdictOn, IsSoundOn}
-use Rattle.lgc_top.specs.Commands.{Command, Calculus, Verify, Prove, Check, spec_of, input_of, command_of}
+use Rattle.lgc_top.specs.Clauses.{IsClausesOn}
+use Rattle.lgc_top.specs.Commands.{Command, Calculus, Verify, Prove, Check, Clauses, spec_of, input_of, command_of}
 
 -- a run: its words, and its files and sinks before and after it
 pub record Run : Type 0 where
@@ -66,6 +67,7 @@ HasInputFault (Calculus _ _) logic bytes number offset = ⊥
 HasInputFault (Verify _ _) logic bytes number offset = RulesGiven logic bytes (Err (input.Fault number offset))
 HasInputFault (Prove _ _) logic bytes number offset = QueriesGiven logic bytes (Err (input.Fault number offset))
 HasInputFault (Check _ _) logic bytes number offset = ReportGiven logic bytes (Err (input.Fault number offset))
+HasInputFault (Clauses _ _) logic bytes number offset = QueriesGiven logic bytes (Err (input.Fault number offset))
 
 -- the same, and the line tells it
 pub record IsInputFaultOf (command : Command) (logic : Logic) (bytes line : List ℕ) : Type 0 where
@@ -89,6 +91,7 @@ Works (Prove file queries) files Done text = WorksOn (Prove file queries) files 
 Works (Prove file queries) files Refuted text = WorksOn (Prove file queries) files (λ logic bytes. IsReportOn logic false bytes text)
 Works (Check file report) files Done line = WorksOn (Check file report) files (λ logic bytes. IsVerdictOn logic true bytes line)
 Works (Check file report) files Rejected line = WorksOn (Check file report) files (λ logic bytes. IsVerdictOn logic false bytes line)
+Works (Clauses file queries) files Done text = WorksOn (Clauses file queries) files (λ logic bytes. IsClausesOn logic bytes text)
 Works command files status text = ⊥
 
 -- each status that comes of what the files hold, with its cause, and with the bytes that are put under it
@@ -152,6 +155,10 @@ PrintsReport run file queries all_proved = PrintsOn run (Prove file queries) (λ
 -- it is the line that tells the verdict on the report, and `accepted` tells whether the report is valid
 abbrev pub PrintsVerdictOn : Run → List ℕ → List ℕ → Bool → Type 0
 PrintsVerdictOn run file report accepted = PrintsOn run (Check file report) (λ logic bytes line. IsVerdictOn logic accepted bytes line)
+
+-- it tells the signed clauses of the queries
+abbrev pub PrintsClauses : Run → List ℕ → List ℕ → Type 0
+PrintsClauses run file queries = PrintsOn run (Clauses file queries) IsClausesOn
 
 -- the second file has a report, which is sound for the logic of the first
 pub record IsSoundFor (run : Run) (file report : List ℕ) : Type 0 where

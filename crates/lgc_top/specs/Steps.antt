@@ -4,7 +4,7 @@ use Rattle.lgc_io.specs.Files.{FilesState, FailsAt}
 use Rattle.lgc_top.specs.declared.command.Command.{Command}
 use Rattle.lgc_top.specs.declared.command.Command.TheVariants.{Calculus, OnBoth}
 use Rattle.lgc_top.specs.declared.command.Work.{Work}
-use Rattle.lgc_top.specs.declared.command.Work.TheVariants.{Verify, Prove, Check}
+use Rattle.lgc_top.specs.declared.command.Work.TheVariants.{Verify, Prove, Check, Clauses}
 use Rattle.lgc_rules.specs.declared.file.TheConstants as rules
 use Rattle.lgc_queries.specs.declared.TheConstants as queries
 use Rattle.lgc_report_reader.specs.declared.report.TheConstants as report
@@ -22,12 +22,14 @@ abbrev pub on_both : Work → List ℕ → List ℕ → words.Command
 on_both Verify spec rules = words.Verify spec rules
 on_both Prove spec queries = words.Prove spec queries
 on_both Check spec report = words.Check spec report
+on_both Clauses spec queries = words.Clauses spec queries
 
 -- the greatest length of the second file
 abbrev pub limit_of : Work → ℕ
 limit_of Verify = rules.LONGEST_FILE
 limit_of Prove = queries.LONGEST_FILE
 limit_of Check = report.LONGEST_REPORT
+limit_of Clauses = queries.LONGEST_FILE
 
 -- the command that a value stands for
 abbrev pub asked : Command → words.Command
@@ -61,6 +63,6 @@ ReadStops files files_after file Memory = Unit {0}
 abbrev pub verdict_status : Bool → Status
 verdict_status right = if right then Done else Rejected
 
--- the status of answers to queries, by whether all of them are proved
+-- the status of answers to queries, by whether every valuation satisfies all of them
 abbrev pub answer_status : Bool → Status
-answer_status all_proved = if all_proved then Done else Refuted
+answer_status all_hold = if all_hold then Done else Refuted

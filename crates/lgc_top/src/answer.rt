@@ -7,14 +7,14 @@ ghost use Rattle.lgc_spec.specs.Logics.{logic_of};
 ghost use Rattle.lgc_syntax.specs.declared.fault.TheConstants.{FILE_TOO_LONG};
 ghost use Rattle.lgc_top.specs.FaultLine.{fault_line, input_line};
 ghost use Rattle.lgc_top.specs.Commands as commands;
-ghost use Rattle.lgc_top.specs.Commands.{Calculus, Verify, Prove, Check, spec_of, input_of, command_of};
+ghost use Rattle.lgc_top.specs.Commands.{Calculus, Verify, Prove, Check, Clauses, spec_of, input_of, command_of};
 ghost use Rattle.lgc_top.specs.Run.{HasSpec, HasInput, HasInputFault};
 ghost use Rattle.lgc_top.specs.Steps.{on_both, limit_of, Answered, Stops, ReadStops, Refuses, verdict_status, answer_status};
 
 use crate::command::{Command, Format, Work, command_of};
 use crate::fault_line::{fault_line, input_line, read_line};
 use crate::status::Status;
-use crate::work::{calculus_of, report_of, verdict_of, verdicts_of};
+use crate::work::{calculus_of, clauses_of, report_of, verdict_of, verdicts_of};
 use lgc_io::{FileFault, Files, Reading};
 use lgc_spec::{Kept, Spec, SpecFault, read_spec};
 use lgc_syntax::InputFault;
@@ -196,10 +196,10 @@ fn verdicts(alloc: Global, spec: &Spec, bytes: &[u8]) -> Result<Answer, Stop>
     }
 }
 
-fn answer_status(all_proved: bool) -> Status
-    ensures { result ≡ answer_status all_proved }
+fn answer_status(all_hold: bool) -> Status
+    ensures { result ≡ answer_status all_hold }
 {
-    if all_proved {
+    if all_hold {
         Status::Done
     } else {
         Status::Refuted
@@ -238,6 +238,22 @@ fn verdict(alloc: Global, spec: &Spec, bytes: &[u8]) -> Result<Answer, Stop>
     }
 }
 
+fn clauses(alloc: Global, spec: &Spec, bytes: &[u8]) -> Result<Answer, Stop>
+    requires logic { IsLogic (logic_of spec.now) }
+    requires designated { spec.now.designated < 2 ^ length spec.now.values }
+    ensures { (file queries : List ℕ) (files files_after : FilesState) → files_after ≡ files → HasInput (Clauses file queries) files spec.now bytes.now →
+        Answered (Some (Clauses file queries)) files files_after result }
+{
+    match clauses_of(alloc, spec, bytes) {
+        Ok(bytes) => Ok(Answer {
+            status: Status::Done,
+            bytes,
+        }),
+        Err(InputFault::Fault { number, offset }) => Err(bad_input(alloc, number, offset)),
+        Err(InputFault::Memory) => Err(Stop::Memory),
+    }
+}
+
 // ---- commands on two files
 
 // The greatest length of the second file.
@@ -246,7 +262,7 @@ fn limit_of(work: Work) -> u32
 {
     match work {
         Work::Verify => lgc_rules::LONGEST_FILE as u32,
-        Work::Prove => lgc_queries::LONGEST_FILE as u32,
+        Work::Prove | Work::Clauses => lgc_queries::LONGEST_FILE as u32,
         Work::Check => lgc_report_reader::LONGEST_REPORT,
     }
 }
@@ -262,6 +278,7 @@ fn work_on(alloc: Global, spec: &Spec, bytes: &[u8], work: Work) -> Result<Answe
         Work::Verify => verdicts(alloc, spec, bytes),
         Work::Prove => report(alloc, spec, bytes),
         Work::Check => verdict(alloc, spec, bytes),
+        Work::Clauses => clauses(alloc, spec, bytes),
     }
 }
 

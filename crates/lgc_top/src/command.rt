@@ -13,6 +13,8 @@ pub(crate) enum Work {
     Prove,
     /// The verdict on its report.
     Check,
+    /// The signed clauses of its queries.
+    Clauses,
 }
 
 /// How a calculus is printed.
@@ -56,6 +58,7 @@ fn work_of(word: &str) -> Option<Work>
         "verify" => Some(Work::Verify),
         "prove" => Some(Work::Prove),
         "check" => Some(Work::Check),
+        "clauses" => Some(Work::Clauses),
         _ => None,
     }
 }

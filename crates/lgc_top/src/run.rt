@@ -3,8 +3,8 @@ ghost use Rattle.std.specs.Prelude.{◌≡◌, ◌⊎◌, ℕ, List, Some, map, 
 ghost use Rattle.lgc_io.specs.Files.{FilesState};
 ghost use Rattle.lgc_top.specs.declared.command.Format.{Format};
 ghost use Rattle.lgc_top.specs.declared.status.Status.{Status};
-ghost use Rattle.lgc_top.specs.Commands.{Calculus, Verify, Prove, Check, command_of};
-ghost use Rattle.lgc_top.specs.Run.{run_of, Answers, Ends, PrintsCalculus, PrintsVerdicts, PrintsReport, PrintsVerdictOn, IsSoundFor, AfterPut};
+ghost use Rattle.lgc_top.specs.Commands.{Calculus, Verify, Prove, Check, Clauses, command_of};
+ghost use Rattle.lgc_top.specs.Run.{run_of, Answers, Ends, PrintsCalculus, PrintsVerdicts, PrintsReport, PrintsVerdictOn, PrintsClauses, IsSoundFor, AfterPut};
 ghost use Rattle.lgc_top.specs.Means.{IsFaultless, Means};
 
 use crate::answer::{Answer, Stop, answer_to};
@@ -100,6 +100,11 @@ pub fn run_multlog<F: Files, O: Sink, E: Sink>(
     // assignment, and so does each sequent that is claimed and each query that is called proved.
     ensures sound { let run = run_of (map string_bytes words.now) (F.state files.old) (F.state files.new) (O.state out.old) (O.state out.new) (E.state err.old) (E.state err.new) in
         (file report : List ℕ) → command_of (map string_bytes words.now) ≡ Some (Check file report) → result ≡ Status.Done → IsSoundFor run file report }
+
+    // With `Done` the output of `clauses` gained the signed clauses of the queries: of each formula of each goal those that the rules give at the
+    // values outside its sign, without what is always true and what another one subsumes.
+    ensures clauses { let run = run_of (map string_bytes words.now) (F.state files.old) (F.state files.new) (O.state out.old) (O.state out.new) (E.state err.old) (E.state err.new) in
+        (file queries : List ℕ) → command_of (map string_bytes words.now) ≡ Some (Clauses file queries) → result ≡ Status.Done → PrintsClauses run file queries }
 
     // Where the files are told, the status is the one that they mean, unless something fails or memory runs out: `BadSpec` for a
     // fault of the specification, then `BadInput` for one of the second file, and else that of the work.

@@ -1,15 +1,17 @@
 // The work of each command on a specification's logic, and the step to the types that carry the number of truth values.
-ghost use Rattle.std.specs.Prelude.{◌≡◌, ◌<◌, ◌^◌, length, IfOk};
+ghost use Rattle.std.specs.Prelude.{◌≡◌, ◌<◌, ◌^◌, length, IfOk, MatchResult};
 ghost use Rattle.lgc_values.specs.Logic.{IsLogic};
 ghost use Rattle.lgc_spec.specs.Logics.{logic_of};
 ghost use Rattle.lgc_top.specs.Calculus.{IsCalculusText};
 ghost use Rattle.lgc_top.specs.Verify.{JudgesBytes};
-ghost use Rattle.lgc_top.specs.Prove.{ReportsOnBytes};
+ghost use Rattle.lgc_top.specs.Prove.{ReportsOnBytes, QueriesRefused};
 ghost use Rattle.lgc_top.specs.Check.{ChecksBytes};
+ghost use Rattle.lgc_top.specs.Clauses.{IsClausesOn};
 
 use crate::command::Format;
 use lgc_calculus::derive_calculus;
 use lgc_check::{Told, tell_verdict};
+use lgc_clause_text::clauses_text;
 use lgc_latex::calculus_latex;
 use lgc_print::calculus_text;
 use lgc_prove::{Answered, prove_queries};
@@ -79,6 +81,19 @@ fn verdict<const N: usize>(alloc: Global, spec: &Spec, bytes: &[u8]) -> Result<T
     }
 }
 
+fn clauses<const N: usize>(alloc: Global, spec: &Spec, bytes: &[u8]) -> Result<Vec<u8>, InputFault>
+    requires size { length spec.now.values ≡ N }
+    requires logic { IsLogic (logic_of spec.now) }
+    requires designated { spec.now.designated < 2 ^ N }
+    ensures { MatchResult result (λ text. IsClausesOn (logic_of spec.now) bytes.now text.items) (QueriesRefused (logic_of spec.now) bytes.now) }
+{
+    let m: Matrix<N> = matrix_of(alloc, spec)?;
+    match read_queries(alloc, &m, bytes) {
+        Ok(queries) => Ok(clauses_text(alloc, &m, queries.items())?),
+        Err(fault) => Err(fault),
+    }
+}
+
 // A call at the number of truth values that is known when it runs.
 macro_rules! at_size {
     ($size:expr, $call:ident($($argument:expr),*)) => {
@@ -138,4 +153,14 @@ pub(crate) fn verdict_of(alloc: Global, spec: &Spec, bytes: &[u8]) -> Result<Tol
 {
     let size = spec.values.len();
     at_size!(size, verdict(alloc, spec, bytes))
+}
+
+/// The signed clauses of the queries of a query file for the specification's logic, or the file's first fault.
+pub(crate) fn clauses_of(alloc: Global, spec: &Spec, bytes: &[u8]) -> Result<Vec<u8>, InputFault>
+    requires logic { IsLogic (logic_of spec.now) }
+    requires designated { spec.now.designated < 2 ^ length spec.now.values }
+    ensures { MatchResult result (λ text. IsClausesOn (logic_of spec.now) bytes.now text.items) (QueriesRefused (logic_of spec.now) bytes.now) }
+{
+    let size = spec.values.len();
+    at_size!(size, clauses(alloc, spec, bytes))
 }
