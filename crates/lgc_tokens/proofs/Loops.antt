@@ -1,6 +1,6 @@
 -- The loops of the code. A loop that lets a tree grow keeps one equation: what reading gives from here on, with the tree so
 -- far, is what it gives from the start. Each turn keeps it by a lemma of this file. The tokens are seen by `see`, in any way.
-use Rattle.std.proofs.Common.{◌≡◌, ℕ, Bool, true, false, List, Result, Ok, sym, ◌∙◌}
+use Rattle.std.proofs.Common.{◌≡◌, Bool, true, false, List, Result, Ok, sym, ◌∙◌}
 use Rattle.lgc_grammar.specs.Grammar.{Grammar, Language, Why}
 use Rattle.lgc_grammar.specs.Reading.{Reader, next_is, growing_at, Turn, onward, last, ending_at}
 use Rattle.lgc_grammar.proofs.Readers.{Reads, Must}

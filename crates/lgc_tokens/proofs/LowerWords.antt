@@ -1,13 +1,9 @@
 -- The class of a Lower is that of a keyword or of another Lower.
-use Rattle.std.proofs.Common.{◌≡◌, ℕ, Bool, true, false, cond, List, Option, Some, None, refl, ap, ◌∙◌}
-use Rattle.std.specs.Prelude.{codes, IfSome}
+use Rattle.std.proofs.Common.{◌≡◌, ℕ, Bool, true, false, cond, List, refl}
+use Rattle.std.specs.Prelude.{codes}
 use Rattle.std.specs.Str.{bytes_eq}
-use Rattle.lgc_lexer.specs.declared.token.Kind.{Kind}
-use Rattle.lgc_lexer.specs.declared.token.Kind.TheVariants as kind
 use Rattle.lgc_tokens.specs.declared.class.Class.{Class}
-use Rattle.lgc_tokens.specs.declared.terminal.Terminal.{Terminal}
-use Rattle.lgc_tokens.specs.Spelled.{Spelled}
-use Rattle.lgc_tokens.specs.Classes.{is_lower, class_in, class_of, class_of_word, passes, IsOfEachWord, IsOfEach}
+use Rattle.lgc_tokens.specs.Classes.{is_lower, class_of_word}
 
 choose : (b : Bool) (c d : Class) → is_lower c ≡ true → is_lower d ≡ true → is_lower (cond b c d) ≡ true
 choose true c d h g = h
@@ -49,12 +45,3 @@ word_is_lower text =
     (choose (bytes_eq text (codes "unfinished")) _ _ refl
     (choose (bytes_eq text (codes "holds")) _ _ refl
     (choose (bytes_eq text (codes "end")) _ _ refl refl))))))))))))))))))))))))))))))))
-
-class_of_lower : (x : Spelled) → x.token.kind ≡ kind.Lower → class_of x ≡ class_of_word x.text
-unfolding class_of
-class_of_lower x is = ap (λ k. class_in k x.text x.before_caret) is
-
--- what is told of each Lower by its class is told of it by its kind
-pub told_by_kind : (t : Terminal) (k : Kind) (told : Option Bool) → k ≡ kind.Lower → IfSome told (IsOfEachWord t) → IfSome told (IsOfEach t k)
-told_by_kind t k None lower by_class = tt
-told_by_kind t k (Some answer) lower by_class = λ x is. ap (passes t) (class_of_lower x (is ∙ lower)) ∙ by_class (class_of_word x.text) (word_is_lower x.text)

@@ -387,10 +387,60 @@ AsksForNumber terminal.Number = Unit {0}
 AsksForNumber terminal.Argument = Unit {0}
 AsksForNumber _ = ⊥
 
--- whether a Lower is of the terminal is answered so, whatever it says
-abbrev pub IsOfEachWord : Terminal → Bool → Type 0
-IsOfEachWord t answer = (c : Class) → is_lower c ≡ true → passes t c ≡ answer
+-- ---- what a token's kind tells
 
--- whether a token of the kind is
+-- the kind of the tokens of a class
+abbrev pub kind_of : Class → Kind
+kind_of Upper = kind.Upper
+kind_of Zero = kind.Digits
+kind_of CaretZero = kind.Digits
+kind_of Number = kind.Digits
+kind_of LongNumber = kind.Digits
+kind_of Digits = kind.Digits
+kind_of Mixed = kind.Digits
+kind_of Quoted = kind.Quoted
+kind_of Text = kind.Text
+kind_of Less = kind.Symbol
+kind_of Caret = kind.Symbol
+kind_of Turnstile = kind.Symbol
+kind_of Equals = kind.Symbol
+kind_of Hash = kind.Symbol
+kind_of Symbol = kind.Symbol
+kind_of OpenRound = kind.Punct
+kind_of CloseRound = kind.Punct
+kind_of OpenBrace = kind.Punct
+kind_of CloseBrace = kind.Punct
+kind_of OpenSquare = kind.Punct
+kind_of CloseSquare = kind.Punct
+kind_of Comma = kind.Punct
+kind_of Dot = kind.Punct
+kind_of Colon = kind.Punct
+kind_of Semicolon = kind.Punct
+kind_of Slash = kind.Punct
+kind_of Punct = kind.Punct
+kind_of _ = kind.Lower
+
+-- the place of a kind among all
+abbrev pub kind_place : Kind → ℕ
+kind_place kind.Lower = 0
+kind_place kind.Upper = 1
+kind_place kind.Digits = 2
+kind_place kind.Quoted = 3
+kind_place kind.Text = 4
+kind_place kind.Symbol = 5
+kind_place kind.Punct = 6
+
+abbrev pub same_kind : Kind → Kind → Bool
+same_kind k l = kind_place k == kind_place l
+
+-- whether a token of the kind is of the terminal, where the kind alone tells
+abbrev pub told_by_kind : Terminal → Kind → Option Bool
+told_by_kind (terminal.Only c) k = if same_kind (kind_of c) k then None else Some false
+told_by_kind terminal.Word k = Some (same_kind kind.Lower k)
+told_by_kind terminal.Name k = Some (same_kind kind.Lower k || same_kind kind.Quoted k)
+told_by_kind terminal.TermStart k = Some (same_kind kind.Upper k || same_kind kind.Lower k)
+told_by_kind _ k = None
+
+-- whether a token of the kind is of the terminal is answered so, whatever it says
 abbrev pub IsOfEach : Terminal → Kind → Bool → Type 0
 IsOfEach t k answer = (x : Spelled) → x.token.kind ≡ k → is_a t x ≡ answer

@@ -2,7 +2,7 @@
 ghost use Rattle.std.specs.Prelude.{◌≡◌, length};
 ghost use Rattle.lgc_lexer.specs.Spans.{LiesIn, AllIn};
 ghost use Rattle.lgc_tokens.specs.Spelled.{spelled, is_caret, begins_with_caret};
-ghost use Rattle.lgc_tokens.specs.Classes.{class_of, class_of_word, class_of_number, class_of_digits, class_of_symbol, class_of_punct, same, is_lower};
+ghost use Rattle.lgc_tokens.specs.Classes.{class_of, class_of_word, class_of_number, class_of_digits, class_of_symbol, class_of_punct, same, is_lower, kind_of, same_kind};
 
 use crate::number::{are_digits, long_number_in, number_in};
 use lgc_lexer::{Kind, Token, content};
@@ -91,6 +91,48 @@ pub(crate) fn same(class: Class, other: Class) -> bool
     ensures { result ≡ same class other }
 {
     class == other
+}
+
+pub(crate) fn same_kind(kind: Kind, other: Kind) -> bool
+    ensures { result ≡ same_kind kind other }
+{
+    kind == other
+}
+
+/// The kind of the tokens of a class.
+pub(crate) fn kind_of(class: Class) -> Kind
+    ensures { result ≡ kind_of class }
+{
+    match class {
+        Class::Upper => Kind::Upper,
+        Class::Zero
+        | Class::CaretZero
+        | Class::Number
+        | Class::LongNumber
+        | Class::Digits
+        | Class::Mixed => Kind::Digits,
+        Class::Quoted => Kind::Quoted,
+        Class::Text => Kind::Text,
+        Class::Less
+        | Class::Caret
+        | Class::Turnstile
+        | Class::Equals
+        | Class::Hash
+        | Class::Symbol => Kind::Symbol,
+        Class::OpenRound
+        | Class::CloseRound
+        | Class::OpenBrace
+        | Class::CloseBrace
+        | Class::OpenSquare
+        | Class::CloseSquare
+        | Class::Comma
+        | Class::Dot
+        | Class::Colon
+        | Class::Semicolon
+        | Class::Slash
+        | Class::Punct => Kind::Punct,
+        _ => Kind::Lower,
+    }
 }
 
 /// Whether it is that of a Lower: a keyword's or another one's.

@@ -3,10 +3,10 @@ ghost use Rattle.std.specs.Prelude.{◌≡◌, ◌≤◌, ◌<◌, ◌^◌, leng
 ghost use Rattle.lgc_grammar.specs.Reading.{one_at, next_is, skip, past};
 ghost use Rattle.lgc_lexer.specs.Spans.{LiesIn, AllIn};
 ghost use Rattle.lgc_tokens.specs.Spelled.{spelled, spelled_all, place, IsRest, IsShorter};
-ghost use Rattle.lgc_tokens.specs.Classes.{passes, is_a, IsOfEachWord, IsOfEach, names, names_or_symbols, values, order_values, logic_names, digits_alone, numbers, long_numbers, arguments, zeros, quantifier_clauses, begins_statement, begins_query};
+ghost use Rattle.lgc_tokens.specs.Classes.{passes, is_a, told_by_kind, IsOfEach, names, names_or_symbols, values, order_values, logic_names, digits_alone, numbers, long_numbers, arguments, zeros, quantifier_clauses, begins_statement, begins_query};
 ghost use Rattle.lgc_tokens.specs.Gives.{Gives};
 
-use crate::class::{Class, class_of, is_lower, same};
+use crate::class::{Class, class_of, is_lower, kind_of, same, same_kind};
 use crate::stop::Stop;
 use lgc_lexer::{Kind, Token};
 
@@ -176,24 +176,29 @@ fn passes(terminal: Terminal, class: Class) -> bool
     }
 }
 
-// Whether each Lower is one of the terminal, or none is; none where that depends on what it says.
-fn of_each_word(terminal: Terminal) -> Option<bool>
-    ensures { IfSome result (λ answer. IsOfEachWord terminal answer) }
+fn told_by_kind(terminal: Terminal, kind: Kind) -> Option<bool>
+    ensures { result ≡ told_by_kind terminal kind }
 {
     match terminal {
-        Terminal::Word | Terminal::Name => Some(true),
-        Terminal::Only(class) if !is_lower(class) => Some(false),
+        Terminal::Only(class) => {
+            if same_kind(kind_of(class), kind) {
+                None
+            } else {
+                Some(false)
+            }
+        }
+        Terminal::Word => Some(same_kind(Kind::Lower, kind)),
+        Terminal::Name => Some(same_kind(Kind::Lower, kind) || same_kind(Kind::Quoted, kind)),
+        Terminal::TermStart => Some(same_kind(Kind::Upper, kind) || same_kind(Kind::Lower, kind)),
         _ => None,
     }
 }
 
+// Whether each token of a kind is of the terminal, or none is; none where that depends on what it says.
 fn of_each_of_kind(terminal: Terminal, kind: Kind) -> Option<bool>
     ensures { IfSome result (λ answer. IsOfEach terminal kind answer) }
 {
-    match kind {
-        Kind::Lower => of_each_word(terminal),
-        _ => None,
-    }
+    told_by_kind(terminal, kind)
 }
 
 /// Whether a token before others is one of the terminal.

@@ -1,5 +1,5 @@
 -- The tag of a class is its place.
-use Rattle.std.proofs.Common.{◌≡◌, ℕ, ◌==◌, refl, ap, ◌∙◌}
+use Rattle.std.proofs.Common.{◌≡◌, ◌==◌, refl, ap, ◌∙◌}
 use denote.Enum.Declared.{tag_of}
 use Rattle.lgc_tokens.specs.contracts.class.Class.{the_type}
 use Rattle.lgc_tokens.specs.declared.class.Class.{Class}

@@ -1,6 +1,6 @@
--- What is told of each Lower is told of a token of this kind.
-use Rattle.lgc_tokens.proofs.LowerWords.{told_by_kind}
+-- What is told of a kind is true of each token of the kind.
+use Rattle.lgc_tokens.proofs.KindLaws.{told}
 use Rattle.lgc_tokens.proofs.terminal.of_each_of_kind.Goals as goal
 
-pub returns-in-Lower : goal.returns-in-Lower
-returns-in-Lower c = told_by_kind c.args.terminal c.args.kind c.of_each_word.result c.in-Lower.is c.of_each_word.ensures
+pub returns : goal.returns
+returns c = told c.args.terminal c.args.kind c.told_by_kind.result c.told_by_kind.ensures
