@@ -1,0 +1,2 @@
+pub mod ClosedTableaux
+pub mod OrderlyTableaux
