@@ -1,0 +1,3 @@
+pub mod BranchLaws
+pub mod SplitLaws
+pub mod ClosedLaws
