@@ -17,8 +17,8 @@ use std::alloc::{AllocError, Global};
 /// The verdict on a report of the logic: it is accepted exactly if it is valid. Else the answer is the first rule, line or claim that has a
 /// cause, in this order, and the first of its causes.
 ///
-/// What an accepted report derives holds in every finite structure of the logic, under every assignment: each line that doesn't rest on a
-/// pending one, each sequent that is claimed to hold, and each query that is called proved.
+/// What an accepted report derives is true in all finite structures of the logic, whatever its free variables stand for: each line that
+/// doesn't rest on a pending one, each sequent that is claimed to hold, and each query that is called proved.
 ///
 /// It fails only where memory is wanting.
 pub fn check_report<const N: usize>(

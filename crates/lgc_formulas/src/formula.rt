@@ -38,7 +38,7 @@ pub const MOST_DEPTH: u32 = 100;
 /// The greatest number of nodes of a formula or a term that is read.
 pub const MOST_NODES: u32 = 1_000;
 
-/// The greatest length of the name of a predicate, a function or a free variable, in bytes, where formulas have numbers.
+/// The greatest length of a name that isn't the logic's, in bytes, where formulas have numbers.
 pub const LONGEST_NAME: usize = 64;
 
 /// A formula that was read, and how many nodes are left behind it. Where the name of an operator with arguments stands alone the

@@ -20,14 +20,14 @@ pub enum FileFault {
     Memory,
 }
 
-/// Files by name, with a count of faults and the name of the last fault.
+/// Files by name. Faults are counted, and the last one keeps its file's name.
 pub trait Files {
     ghost state: { Self → FilesState };
 
     /// Appends the bytes of the file `name` to `into`, where there are at most `limit`.
     ///
-    /// `Failed` comes only where the count of faults rose in this call, and the name of the last fault
-    /// is then `name`. Whatever isn't `Whole` leaves `into` as it was, and whatever isn't `Failed` leaves
+    /// With `Failed` the call raised the count of faults, and the last fault's name
+    /// is `name`. Whatever isn't `Whole` leaves `into` as it was, and whatever isn't `Failed` leaves
     /// the count and the name. The files stay the same.
     fn read_file(
         &mut self,

@@ -17,8 +17,8 @@ pub trait Sink {
 
     /// Writes the bytes.
     ///
-    /// `Failed` comes only where the count of faults rose in this call, and the first of the bytes, maybe
-    /// none, were then taken. `Memory` leaves the sink as it was. A put of no bytes succeeds and changes nothing.
+    /// With `Failed` the call raised the count of faults, and the first of the bytes, maybe
+    /// none, were taken. `Memory` leaves the sink as it was. A put of no bytes succeeds and changes nothing.
     fn put(&mut self, bytes: &[u8]) -> Result<(), SinkFault>
         ensures ok { OnOk result (Takes (state self.old) (state self.new) bytes.now) }
         ensures failed { IsErrOf result SinkFault.Failed → TakesPart (state self.old) (state self.new) bytes.now }

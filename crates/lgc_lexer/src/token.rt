@@ -9,7 +9,7 @@ pub enum Kind {
     Upper,
     /// A digit, then letters, digits and `_`.
     Digits,
-    /// `'`, one or more bytes from 32 to 126 other than `'`, then `'`.
+    /// Printable ASCII between two `'`, at least one byte and no `'`.
     Quoted,
     /// `"`, any bytes other than `"`, then `"`.
     Text,

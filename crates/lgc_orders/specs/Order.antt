@@ -3,7 +3,7 @@ use Rattle.std.specs.Prelude.{◌≡◌, ℕ, ◌+◌, ◌*◌, ◌<◌, ◌⊎�
 use Rattle.lgc_orders.specs.declared.order.OrderFault.{OrderFault}
 use Rattle.lgc_orders.specs.declared.order.OrderFault.TheVariants.{Cycle, Memory}
 
--- a is b, or a chain of links leads from a to b
+-- links lead from a to b, maybe none where they are the same
 pub data Leads (links : List (ℕ × ℕ)) : ℕ → ℕ → Type 0 where
   here : {a : ℕ} → Leads links a a
   along : {a b c : ℕ} → Contains links (a, b) → Leads links b c → Leads links a c

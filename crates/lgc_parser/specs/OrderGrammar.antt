@@ -5,7 +5,7 @@
 --     node  = value | "{" value { "," value } "}"
 --     value = Lower | Upper | Digits | Quoted | Symbol other than "<"
 --
--- The tree is a list of chains, each a list of nodes, each a list of values.
+-- The tree has the chains in order; a chain has its nodes, and a node its values.
 use Rattle.std.specs.Prelude.{List, [], ◌∷◌}
 use Rattle.lgc_grammar.specs.Grammar.{Grammar, One, Mapped, Either, Optional, Separated, Between}
 use Rattle.lgc_parser.specs.declared.tree.Word.{Word}

@@ -149,8 +149,8 @@ fn whole_order(
     }
 }
 
-/// The chains of an order text, each a list of nodes, each a list of values; or the offset of the first token
-/// that can't stand where it does, which is the length of the bytes where the end comes too early.
+/// The chains of an order text, with the values of each of their nodes; or the offset of the first token that can't
+/// stand where it does, which is that of the end where the text stops too early.
 pub fn parse_order(
     alloc: Global,
     bytes: &[u8],
@@ -158,7 +158,7 @@ pub fn parse_order(
 ) -> Result<List<List<List<Word>>>, SyntaxFault>
     requires length { length bytes.now < 2 ^ 32 }
     requires tokens { tokens_of bytes.now ≡ Ok tokens.now }
-    // The tree is the grammar's, and a fault is at the first token with which no continuation is in the grammar.
+    // The tree is the grammar's, and a fault is at the first token behind which no text of the grammar goes on.
     ensures answer { Says (AnswersAll Order (spelled_all bytes.now tokens.now)) (length bytes.now) (λ x. x) result }
     // What is in the grammar is read, with this one tree.
     ensures complete { (chains : List (List (List Word))) → Order (Ok chains) (spelled_all bytes.now tokens.now) → IsTree (λ x. x) result chains }

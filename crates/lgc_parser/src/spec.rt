@@ -53,12 +53,12 @@ fn whole_spec(alloc: Global, bytes: &[u8], tokens: &[Token]) -> Result<SpecTree,
     }
 }
 
-/// The statements of a specification; or the offset of the first token that can't stand where it does, which
-/// is the length of the bytes where the end comes too early.
+/// The statements of a specification; or the offset of the first token that can't stand where it does, which is that
+/// of the end where the text stops too early.
 pub fn parse_spec(alloc: Global, bytes: &[u8], tokens: &[Token]) -> Result<SpecTree, SyntaxFault>
     requires length { length bytes.now < 2 ^ 32 }
     requires tokens { tokens_of bytes.now ≡ Ok tokens.now }
-    // The tree is the grammar's, and a fault is at the first token with which no continuation is in the grammar.
+    // The tree is the grammar's, and a fault is at the first token behind which no text of the grammar goes on.
     ensures answer { Says (AnswersAll Spec (spelled_all bytes.now tokens.now)) (length bytes.now) (λ t. t.statements) result }
     // What is in the grammar is read, with this one tree.
     ensures complete { (statements : List Statement) → Spec (Ok statements) (spelled_all bytes.now tokens.now) → IsTree (λ t. t.statements) result statements }

@@ -11,7 +11,7 @@ use Rattle.lgc_queries.specs.declared.TheConstants.{LONGEST_FILE}
 use Rattle.lgc_queries.specs.QueryGrammar.{Queries}
 use Rattle.lgc_queries.specs.PlainQueries.{PlainQueries}
 
--- What the bytes of a file give: the length is looked at first, then the tokens of the whole file, and then the grammar.
+-- What the bytes of a file give: a fault of their length, or else of their tokens, or else of their grammar, and else the queries.
 abbrev pub FileGives : Logic → List ℕ → Result (List Query) InputFault → Type 0
 FileGives logic bytes told = TextGives named_place (named_all logic bytes) (Queries logic) PlainQueries LONGEST_FILE bytes told
 

@@ -11,7 +11,7 @@ use Rattle.lgc_report_reader.specs.Reported.{reported_all, reported_place}
 use Rattle.lgc_report_reader.specs.ReportGrammar.{ReportHere}
 use Rattle.lgc_report_reader.specs.PlainReports.{PlainReportHere}
 
--- What the bytes of a report give: the length is looked at first, then the tokens of the whole text, and then the grammar. Quantifiers may
+-- What the bytes of a report give: a fault of their length, or else of their tokens, or else of their grammar, and else the report. Quantifiers may
 -- stand, and formulas have no numbers.
 abbrev pub ReportGives : (n : ℕ) → Logic → List ℕ → Result (Report n) InputFault → Type 0
 ReportGives n logic bytes told = TextGives reported_place (reported_all (text_setting logic) bytes) (ReportHere n (text_setting logic)) (PlainReportHere (text_setting logic)) LONGEST_REPORT bytes told

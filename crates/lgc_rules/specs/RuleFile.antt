@@ -17,7 +17,7 @@ pub record IsRuleFor (n : ℕ) (logic : Logic) (rule : Rule n) : Type 0 where
   pub fits : Fits logic (plain_rule rule)
   pub numbered : IsNumbered (plain_rule rule)
 
--- What the bytes of a file give: the length is looked at first, then the tokens of the whole file, and then the grammar.
+-- What the bytes of a file give: a fault of their length, or else of their tokens, or else of their grammar, and else the rules.
 abbrev pub FileGives : (n : ℕ) → Logic → List ℕ → Result (List (Rule n)) InputFault → Type 0
 FileGives n logic bytes told = TextGives place_of (spelled_all bytes) (Rules n logic) PlainRules LONGEST_FILE bytes told
 

@@ -1,4 +1,4 @@
-//! What a valid report derives holds in every finite structure of the logic, under every assignment.
+//! What a valid report derives is true in all finite structures of the logic, whatever its free variables stand for.
 //!
 //! - `specs/Soundness.antt` says when a sequent holds in structures, when a query is satisfied in them, and when a report is sound.
 //! - `proofs/Soundness.antt` has the law: a valid report of a logic is sound. It says nothing of what rests on a pending line.

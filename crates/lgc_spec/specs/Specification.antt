@@ -1,4 +1,4 @@
--- The logic of bytes, or their first fault: the fault of the first step that has one, and else the logic.
+-- The logic of bytes, or their first fault, which is that of the first step at which there is one.
 use Rattle.std.specs.Prelude.{◌≡◌, ℕ, nat_lt, List, [], length, Option, Some, None, Result, Ok, if◌then◌else◌}
 use Rattle.lgc_values.specs.Values.{mask_of}
 use Rattle.lgc_parser.specs.declared.tree.Word.{Word}

@@ -21,8 +21,8 @@ lexed start (Err Memory) = Err fault.Memory
 abbrev pub tokens_given : ℕ → List ℕ → Result (List Token) SpecFault
 tokens_given start text = lexed start (tokens_of text)
 
--- The tree of the text's tokens. A fault is at the first token with which no continuation is in the grammar, or at the end
--- of the text where that comes too early.
+-- The tree of the text's tokens. A fault is at the first token behind which no text of the grammar goes on, or at
+-- the end of the text where that comes too early.
 abbrev pub Parses : {A : Type 0} → Grammar Spelled A → ℕ → List ℕ → List Token → Result A SpecFault → Type 0
 Parses L start text tokens (Ok tree) = L (Ok tree) (spelled_all text tokens)
 Parses L start text tokens (Err f) =

@@ -4,7 +4,7 @@
 //! - [`matrix_of`] is the matrix of this logic, whose number of truth values is known when it is called.
 //!
 //! `specs/Specification.antt` says what the bytes give, by steps in the order of refusals. Each step has a definition of
-//! its own, which is its first fault or the part of the logic that it gives, and one private function.
+//! its own, which says its first fault or what it gives of the logic, and one private function.
 //!
 //! A quantifier has a value for each nonempty set of truth values. It is written row by row, or it is the bound of the set in
 //! an ordering, or the fold of an operator over the set. Such an operator is idempotent, commutative and associative, and
