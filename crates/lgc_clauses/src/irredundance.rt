@@ -43,8 +43,8 @@ pub enum Droppable {
 /// Tells whether a rule is irredundant: whether it isn't exact without any one of its clauses, nor without any one value
 /// of any one set of a clause.
 ///
-/// `None` says that it is. Else the answer is the first clause that can be taken away with the rest exact. Where no clause
-/// can be, it is the first value, by clause, then by part, then by value. The parts of an operator's clause are its arguments
+/// `None` says that it is. Else the answer is what can be dropped while the rule stays exact: the first such clause, and
+/// where there is none the first such value, by clause, then by part, then by value. The parts of an operator's clause are its arguments
 /// in order; those of a quantifier's clause are its `all` sets in order, and then its `some` set.
 pub fn rule_irredundant<const N: usize>(m: &Matrix<N>, rule: &Rule<N>) -> Option<Droppable>
     requires fits { Fits m.now (plain_rule rule.now) }

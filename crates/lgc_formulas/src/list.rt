@@ -83,7 +83,7 @@ pub fn formula_list<'a, const N: usize>(
     ensures rest { IfOk result (λ x. IsShorter c.now.bytes.now tokens.now x.1.now) }
 {
     let (first, rest) = one_formula(alloc, c, many, tokens)?;
-    let room = List::of_vec(Vec::with_capacity(alloc, 1)?);
+    let room = List::of_vec(Vec::with_capacity(alloc, 2)?);
     let formulas = with_formula(room, first)?;
     more_formulas(alloc, c, formulas, rest)
 }

@@ -20,18 +20,21 @@ pub(crate) const SLASH: u8 = b'/';
 
 pub(crate) const STAR: u8 = b'*';
 
+#[inline(always)]
 pub(crate) fn is_blank(byte: u8) -> bool
     ensures { result ≡ is_blank byte }
 {
     matches!(byte, b' ' | b'\t' | b'\n' | b'\r')
 }
 
+#[inline(always)]
 pub(crate) fn is_word(byte: u8) -> bool
     ensures { result ≡ is_word byte }
 {
     byte.is_ascii_alphanumeric() || byte == UNDERSCORE
 }
 
+#[inline(always)]
 pub(crate) fn is_symbol(byte: u8) -> bool
     ensures { result ≡ is_symbol byte }
 {
@@ -55,6 +58,7 @@ pub(crate) fn is_symbol(byte: u8) -> bool
     )
 }
 
+#[inline(always)]
 pub(crate) fn is_punct(byte: u8) -> bool
     ensures { result ≡ is_punct byte }
 {
@@ -77,6 +81,7 @@ pub(crate) fn word_len(bytes: &[u8]) -> usize
     bytes.iter().take_while(|b| is_word(**b)).count()
 }
 
+#[inline(always)]
 pub(crate) fn symbol_len(bytes: &[u8]) -> usize
     ensures value { result ≡ prefix_len is_symbol bytes.now }
     ensures within { result ≤ length bytes.now }

@@ -14,7 +14,7 @@ use lgc_values::{Matrix, ValueSet};
 /// Whether a valuation satisfies a query without quantifiers.
 ///
 /// A mixed entailment is satisfied where the value of some premise isn't in the set `given`, or that of some conclusion is in the set
-/// `wanted`. An equation is where both sides have the same value. A quasi-equation is where some premise isn't, or the conclusion is.
+/// `wanted`. An equation is where its sides agree in value. A quasi-equation is where one of its premises isn't, or its conclusion is.
 pub fn satisfies<const N: usize>(m: &Matrix<N>, v: &Valuation, q: &Query) -> bool
     requires fits { FitsQuery m.now q.now }
     requires propositional { IsPropositional q.now }

@@ -6,7 +6,7 @@ use Rattle.lgc_sequents.specs.Lines.{PlainLine, IsPosition, sequent_at}
 use Rattle.lgc_sequents.specs.declared.line.Reason.{Reason}
 use Rattle.lgc_proofs.specs.Alike.{AreAlike}
 
--- the numbers of lines are their positions, and no two lines have sequents that are included in each other
+-- the numbers of lines are their positions, and no two lines are alike
 pub record AreDistinct (lines : List PlainLine) : Type 0 where
   pub numbers : map (λ line. line.number) lines ≡ range_with_len 1 (length lines)
   pub differ : AllPairs (λ a b. AreAlike a.sequent b.sequent → ⊥) lines

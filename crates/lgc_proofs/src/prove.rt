@@ -21,9 +21,9 @@ use std::alloc::{AllocError, Global};
 
 impl<const N: usize> Proofs<N> {
     /// The line of a goal, or a valuation under which the goal is false. The goal's line has its items, in some order; where it isn't there, it
-    /// is appended, behind the lines that it needs and that aren't there. Each appended line is an axiom or a step by a rule of the book.
+    /// is appended, behind the lines that it needs and that aren't there. Appended lines are axioms, and steps by rules of the book.
     ///
-    /// On want of memory the book and the lines may have grown.
+    /// Where memory runs out, the book may have more rules and there may be more lines.
     #[tactic(auto, using(crate::proofs::Appending::unchanged_laws))]
     pub fn prove(
         &mut self,

@@ -1,6 +1,6 @@
 -- How many nodes a term or a formula has, how deep it is, whether it has a quantifier, and how many operators.
 --
--- Each formula and each term inside is one node. The depth is the greatest number of nodes on a way down.
+-- Each formula and each term inside is one node. The depth counts the nodes of the longest way down.
 use Rattle.std.specs.Prelude.{ℕ, ◌+◌, max, Bool, true, false, List, [], ◌∷◌, map}
 use Rattle.std.specs.List.{sum, list_any}
 use Rattle.lgc_syntax.specs.declared.formula.Term.{Term, fold-Term}

@@ -36,7 +36,7 @@ pub const TOO_LARGE: u8 = 9;
 /// A value is no truth value of the logic: at the value.
 pub const UNKNOWN_VALUE: u8 = 10;
 
-/// An argument's number is 0, or above the arity, or not above the one before it in its clause: at the number.
+/// The number of an argument is 0 or greater than the arity, or it doesn't rise over that of the literal before: at the number.
 pub const BAD_ARGUMENT: u8 = 11;
 
 /// The number of the k-th rule, counted from 1, isn't k: at the number.

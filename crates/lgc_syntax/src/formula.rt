@@ -15,8 +15,8 @@ pub enum Term {
 
 /// A formula: an atom, which is a predicate with its arguments, an operator with its arguments, or a quantifier with its body.
 ///
-/// Operators and quantifiers are those of a logic, by their numbers from 0. A predicate symbol is a name with its number of
-/// arguments.
+/// Operators and quantifiers are those of a logic, by their numbers from 0. A predicate is told by its name and by how many
+/// arguments it has.
 #[derive(Drop)]
 pub enum Formula {
     Atom(Name, List<Term>),
