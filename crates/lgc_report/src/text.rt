@@ -33,8 +33,10 @@ fn put_position(position: u64, into: &mut Vec<u8>) -> Result<(), AllocError>
     into.extend_from_slice(buffer.format(position).as_bytes())
 }
 
+/// Puts a formula with its sign, as `p^{t}`, behind what `into` holds. The formula is less than `2^32` deep. Where memory runs out, `into` may
+/// have a part of it.
 #[tactic(auto, unfolding(crate::specs::ReportText::item_text))]
-fn put_item<const N: usize>(
+pub fn put_item<const N: usize>(
     alloc: Global,
     m: &Matrix<N>,
     item: &Signed<N>,

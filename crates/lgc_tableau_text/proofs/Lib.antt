@@ -1,0 +1,2 @@
+pub mod TableauLaws
+pub mod PartLaws

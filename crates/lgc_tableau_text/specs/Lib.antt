@@ -1,0 +1,2 @@
+pub mod TableauText
+pub mod Work
