@@ -1,0 +1,2 @@
+pub mod TableauxLaws
+pub mod DecidedLaws

@@ -1,0 +1,2 @@
+pub mod TableauxText
+pub mod Work
