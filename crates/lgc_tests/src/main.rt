@@ -33,7 +33,7 @@ mod tests;
 use std::{fs, io};
 use table::Table;
 
-const TABLES: [&str; 12] = [
+const TABLES: [&str; 13] = [
     "commands.txt",
     "calculus.txt",
     "latex.txt",
@@ -44,6 +44,7 @@ const TABLES: [&str; 12] = [
     "queries.txt",
     "prove.txt",
     "clauses.txt",
+    "tableau.txt",
     "check.txt",
     "report_faults.txt",
 ];

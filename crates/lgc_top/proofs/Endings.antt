@@ -26,8 +26,9 @@ use Rattle.lgc_top.specs.Steps.{on_both, limit_of, verdict_status, answer_status
 use Rattle.lgc_spec.specs.declared.spec.Spec.{Spec}
 use Rattle.lgc_spec.specs.Logics.{logic_of}
 use Rattle.lgc_top.specs.Clauses.{IsClausesOn}
-use Rattle.lgc_top.specs.Commands.{Command, Calculus, Verify, Prove, Check, Clauses, spec_of, input_of, command_of}
-use Rattle.lgc_top.specs.Run.{Run, HasInput, HasInputFault, WorksOn, CommandAnswers, Answers, Ends, WordsAnswer, PrintsCalculus, PrintsOn, PrintsVerdicts, PrintsReport, PrintsVerdictOn, PrintsClauses, IsSoundFor}
+use Rattle.lgc_top.specs.Tableaux.{IsTableauxOn}
+use Rattle.lgc_top.specs.Commands.{Command, Calculus, Verify, Prove, Check, Clauses, Tableaux, spec_of, input_of, command_of}
+use Rattle.lgc_top.specs.Run.{Run, HasInput, HasInputFault, WorksOn, CommandAnswers, Answers, Ends, WordsAnswer, PrintsCalculus, PrintsOn, PrintsVerdicts, PrintsReport, PrintsVerdictOn, PrintsClauses, PrintsTableaux, IsSoundFor}
 
 -- what the output gained
 module _ (run : Run) where
@@ -77,6 +78,12 @@ module _ (run : Run) where
   pub prints_clauses : (file queries : List ℕ) (ended : Status) → Ends run ended → command_of run.words ≡ Some (Clauses file queries) → ended ≡ Done → PrintsClauses run file queries
   prints_clauses file queries ended = prints_on (Clauses file queries) Done ended IsClausesOn done (λ text answers. answers.1)
 
+  pub prints_closed : (file queries : List ℕ) (ended : Status) → Ends run ended → command_of run.words ≡ Some (Tableaux file queries) → ended ≡ Done → PrintsTableaux run file queries true
+  prints_closed file queries ended = prints_on (Tableaux file queries) Done ended (λ logic bytes text. IsTableauxOn logic true bytes text) done (λ text answers. answers.1)
+
+  pub prints_unclosed : (file queries : List ℕ) (ended : Status) → Ends run ended → command_of run.words ≡ Some (Tableaux file queries) → ended ≡ Refuted → PrintsTableaux run file queries false
+  prints_unclosed file queries ended = prints_on (Tableaux file queries) Refuted ended (λ logic bytes text. IsTableauxOn logic false bytes text) refuted (λ text answers. answers.1)
+
   -- what is accepted is sound
   pub sound_accepted : (file report : List ℕ) (ended : Status) → Ends run ended → command_of run.words ≡ Some (Check file report) → ended ≡ Done → IsSoundFor run file report
   sound_accepted file report ended ends asks is =
@@ -113,6 +120,7 @@ long_input work.Verify file name logic bytes long = long_rules logic bytes long
 long_input work.Prove file name logic bytes long = long_queries logic bytes long
 long_input work.Check file name logic bytes long = long_report logic bytes long
 long_input work.Clauses file name logic bytes long = long_queries logic bytes long
+long_input work.Tableaux file name logic bytes long = long_queries logic bytes long
 
 -- the files of work on two files
 pub spec_of-on_both : (work : Work) (file name : List ℕ) → spec_of (on_both work file name) ≡ file
@@ -120,12 +128,14 @@ spec_of-on_both work.Verify file name = refl
 spec_of-on_both work.Prove file name = refl
 spec_of-on_both work.Check file name = refl
 spec_of-on_both work.Clauses file name = refl
+spec_of-on_both work.Tableaux file name = refl
 
 pub input_of-on_both : (work : Work) (file name : List ℕ) → input_of (on_both work file name) ≡ Some name
 input_of-on_both work.Verify file name = refl
 input_of-on_both work.Prove file name = refl
 input_of-on_both work.Check file name = refl
 input_of-on_both work.Clauses file name = refl
+input_of-on_both work.Tableaux file name = refl
 
 -- the lines on rules answer the words, under the status by whether all rules are right
 pub lines_answer : (file rules : List ℕ) (files files_after : FilesState) (spec : Spec) (bytes text : List ℕ) (right : Bool) (status : Status) → files_after ≡ files → status ≡ verdict_status right → HasInput (Verify file rules) files spec bytes → IsVerdictText (logic_of spec) right bytes text → CommandAnswers (Verify file rules) files files_after status text
@@ -141,3 +151,8 @@ report_answers file queries files files_after spec bytes text false status kept 
 pub verdict_answers : (file report : List ℕ) (files files_after : FilesState) (spec : Spec) (bytes line : List ℕ) (accepted : Bool) (status : Status) → files_after ≡ files → status ≡ verdict_status accepted → HasInput (Check file report) files spec bytes → IsVerdictOn (logic_of spec) accepted bytes line → CommandAnswers (Check file report) files files_after status line
 verdict_answers file report files files_after spec bytes line true status kept is asked verdict = rw is (kept, (spec, bytes, asked, verdict))
 verdict_answers file report files files_after spec bytes line false status kept is asked verdict = rw is (kept, (spec, bytes, asked, verdict))
+
+-- the text of tableaux answers the words, under the status by whether all of them are closed
+pub tableaux_answer : (file queries : List ℕ) (files files_after : FilesState) (spec : Spec) (bytes text : List ℕ) (all_closed : Bool) (status : Status) → files_after ≡ files → status ≡ answer_status all_closed → HasInput (Tableaux file queries) files spec bytes → IsTableauxOn (logic_of spec) all_closed bytes text → CommandAnswers (Tableaux file queries) files files_after status text
+tableaux_answer file queries files files_after spec bytes text true status kept is asked tableaux = rw is (kept, (spec, bytes, asked, tableaux))
+tableaux_answer file queries files files_after spec bytes text false status kept is asked tableaux = rw is (kept, (spec, bytes, asked, tableaux))

@@ -25,7 +25,9 @@ use Rattle.lgc_check.specs.VerdictText.{IsTold}
 use Rattle.lgc_top.specs.Check.{ReportGiven, IsVerdictOn, ChecksBytes}
 use Rattle.lgc_top.specs.Prove.{QueriesGiven, QueriesRefused, IsReportOn}
 use Rattle.lgc_top.specs.Clauses.{IsClausesOn}
+use Rattle.lgc_top.specs.Tableaux.{IsTableauxOn}
 use Rattle.lgc_clause_text.specs.ClausesText.{IsClausesText}
+use Rattle.lgc_tableaux.specs.TableauxText.{IsTableauxText}
 use Rattle.lgc_top.specs.Verify.{RulesGiven, IsVerdictText, JudgesBytes}
 
 abbrev pub queries_failed : InputFault → Result (List Query) InputFault
@@ -62,6 +64,9 @@ module _ (m logic : Logic) (same : m ≡ logic) (bytes : List ℕ) where
 
   pub clauses_told : (text : List ℕ) (asked : List Query) → queries.FileGives m bytes (Ok asked) → IsClausesText m asked text → IsClausesOn logic bytes text
   clauses_told text asked given told = subst (λ (l : Logic). IsClausesOn l bytes text) same (record { queries = asked; given = given; clauses = told })
+
+  pub tableaux_told : (all_closed : Bool) (text : List ℕ) (asked : List Query) → queries.FileGives m bytes (Ok asked) → IsTableauxText m asked all_closed text → IsTableauxOn logic all_closed bytes text
+  tableaux_told all_closed text asked given told = subst (λ (l : Logic). IsTableauxOn l all_closed bytes text) same (record { queries = asked; given = given; tableaux = told })
 
   pub queries_refused : (fault : InputFault) → Holds (queries.FileGives m bytes) (queries_failed fault) → QueriesRefused logic bytes fault
   queries_refused Memory given = tt

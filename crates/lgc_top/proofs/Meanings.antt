@@ -25,7 +25,7 @@ use Rattle.lgc_report.specs.Valid.{IsValid}
 use Rattle.lgc_report_reader.proofs.ReportFiles as reports
 use Rattle.lgc_top.specs.declared.status.Status.{Status}
 use Rattle.lgc_top.specs.declared.status.Status.TheVariants.{Done, Refuted, Usage, BadSpec, BadInput, Rejected, ReadFault, WriteFault, Memory}
-use Rattle.lgc_top.specs.Commands.{Command, Calculus, Verify, Prove, Check, Clauses, spec_of, input_of}
+use Rattle.lgc_top.specs.Commands.{Command, Calculus, Verify, Prove, Check, Clauses, Tableaux, spec_of, input_of}
 use Rattle.lgc_top.specs.Verify.{RulesGiven}
 use Rattle.lgc_top.specs.Prove.{QueriesGiven}
 use Rattle.lgc_top.specs.Check.{ReportGiven}
@@ -87,6 +87,12 @@ works_mean (Check file report) files _ line h = absurd h
 works_mean (Clauses file queries) files Done text (spec, bytes, has, told) =
     with_spec (Clauses file queries) files Done spec has.logic (with_input (Clauses file queries) files Done queries refl spec bytes has (QueriesGiven (logic_of spec)) any_queries Done (Ok told.queries) told.given (inl (tt, refl)))
 works_mean (Clauses file queries) files _ text h = absurd h
+works_mean (Tableaux file queries) files Done text (spec, bytes, has, told) =
+    with_spec (Tableaux file queries) files Done spec has.logic (with_input (Tableaux file queries) files Done queries refl spec bytes has (QueriesGiven (logic_of spec)) (All (IsSatisfiedEverywhere (logic_of spec))) Refuted (Ok told.queries) told.given (inl (told.tableaux.decided.0 refl, refl)))
+works_mean (Tableaux file queries) files Refuted text (spec, bytes, has, told) =
+    with_spec (Tableaux file queries) files Refuted spec has.logic (with_input (Tableaux file queries) files Refuted queries refl spec bytes has (QueriesGiven (logic_of spec)) (All (IsSatisfiedEverywhere (logic_of spec))) Refuted (Ok told.queries) told.given
+    (inr ((λ all. let no : false ≡ true = told.tableaux.decided.1 all in absurd cc), refl)))
+works_mean (Tableaux file queries) files _ text h = absurd h
 
 faults_mean : (command : Command) (files : FilesState) (line : List ℕ) → FilesAnswer command files BadInput line → CommandMeans (Holds files) command BadInput
 faults_mean (Calculus format file) files line (spec, bytes, has, fault) = absurd fault.given
@@ -98,6 +104,8 @@ faults_mean (Check file report) files line (spec, bytes, has, fault) =
     with_spec (Check file report) files BadInput spec has.logic (with_input (Check file report) files BadInput report refl spec bytes has (ReportGiven (logic_of spec)) (is_valid (logic_of spec)) Rejected (Err (input.Fault fault.number fault.offset)) fault.given refl)
 faults_mean (Clauses file queries) files line (spec, bytes, has, fault) =
     with_spec (Clauses file queries) files BadInput spec has.logic (with_input (Clauses file queries) files BadInput queries refl spec bytes has (QueriesGiven (logic_of spec)) any_queries Done (Err (input.Fault fault.number fault.offset)) fault.given refl)
+faults_mean (Tableaux file queries) files line (spec, bytes, has, fault) =
+    with_spec (Tableaux file queries) files BadInput spec has.logic (with_input (Tableaux file queries) files BadInput queries refl spec bytes has (QueriesGiven (logic_of spec)) (All (IsSatisfiedEverywhere (logic_of spec))) Refuted (Err (input.Fault fault.number fault.offset)) fault.given refl)
 
 answers_mean : (command : Command) (files files_after : FilesState) (status : Status) (bytes : List ℕ) → CommandAnswers command files files_after status bytes → (status ≡ ReadFault → ⊥) → CommandMeans (Holds files) command status
 answers_mean command files files_after ReadFault line h other = absurd (other refl)
@@ -145,6 +153,7 @@ module _ (files : FilesState) where
   spec_once (Prove file queries) (Ok spec) a b p q = input_once queries (QueriesGiven (logic_of spec)) (All (IsSatisfiedEverywhere (logic_of spec))) Refuted (queries_once (logic_of spec)) a b p q
   spec_once (Check file report) (Ok spec) a b p q = input_once report (ReportGiven (logic_of spec)) (is_valid (logic_of spec)) Rejected (report_once (logic_of spec)) a b p q
   spec_once (Clauses file queries) (Ok spec) a b p q = input_once queries (QueriesGiven (logic_of spec)) any_queries Done (queries_once (logic_of spec)) a b p q
+  spec_once (Tableaux file queries) (Ok spec) a b p q = input_once queries (QueriesGiven (logic_of spec)) (All (IsSatisfiedEverywhere (logic_of spec))) Refuted (queries_once (logic_of spec)) a b p q
 
   means_once : (command : Command) (a b : Status) → CommandMeans (Holds files) command a → CommandMeans (Tells files) command b → a ≡ b
   means_once command a b (bytes, found, held, gives, p) (other, also, told, given, q) =

@@ -20,8 +20,8 @@ pub record IsVerdictOn (logic : Logic) (accepted : Bool) (bytes line : List ℕ)
   pub given : ReportGiven logic bytes (Ok report)
   pub told : IsTold logic (plain_report report) accepted line
 
--- The bytes are those of a report, which is sound: each of its lines that doesn't rest on a pending one holds in every finite structure of
--- the logic, under every assignment, and so does each claim.
+-- The bytes are those of a report, which is sound: each of its lines that doesn't rest on a pending one is true in all finite structures
+-- of the logic, whatever its free variables stand for, and so is each claim.
 pub record IsSoundOn (logic : Logic) (bytes : List ℕ) : Type 0 where
   pub report : Report logic.size
   pub given : ReportGiven logic bytes (Ok report)

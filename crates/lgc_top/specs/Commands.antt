@@ -15,6 +15,8 @@ pub data Command : Type 0 where
   Check : List ℕ → List ℕ → Command
   -- tell the signed clauses of the queries of the second file, for the logic of the first
   Clauses : List ℕ → List ℕ → Command
+  -- show each goal of the queries of the second file by a closed tableau, for the logic of the first
+  Tableaux : List ℕ → List ℕ → Command
 
 -- the name of the file of the specification
 abbrev pub spec_of : Command → List ℕ
@@ -23,6 +25,7 @@ spec_of (Verify spec rules) = spec
 spec_of (Prove spec queries) = spec
 spec_of (Check spec report) = spec
 spec_of (Clauses spec queries) = spec
+spec_of (Tableaux spec queries) = spec
 
 -- the name of the second file
 abbrev pub input_of : Command → Option (List ℕ)
@@ -31,6 +34,7 @@ input_of (Verify spec rules) = Some rules
 input_of (Prove spec queries) = Some queries
 input_of (Check spec report) = Some report
 input_of (Clauses spec queries) = Some queries
+input_of (Tableaux spec queries) = Some queries
 
 -- nonempty, and not beginning with `-`
 abbrev pub is_file_name : List ℕ → Bool
@@ -48,7 +52,8 @@ command_named word spec input =
     else (if pointwise nat_eq word (codes "prove") then Some (Prove spec input)
     else (if pointwise nat_eq word (codes "check") then Some (Check spec input)
     else (if pointwise nat_eq word (codes "clauses") then Some (Clauses spec input)
-    else None)))
+    else (if pointwise nat_eq word (codes "tableau") then Some (Tableaux spec input)
+    else None))))
 
 -- the same where both are names of files
 abbrev pub command_on_both : List ℕ → List ℕ → List ℕ → Option Command

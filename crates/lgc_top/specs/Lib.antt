@@ -4,6 +4,7 @@ pub mod Verify
 pub mod Prove
 pub mod Check
 pub mod Clauses
+pub mod Tableaux
 pub mod Commands
 pub mod Run
 pub mod Means

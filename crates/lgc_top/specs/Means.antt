@@ -15,7 +15,7 @@ use Rattle.lgc_report.specs.Reports.{plain_report}
 use Rattle.lgc_report.specs.Valid.{IsValid}
 use Rattle.lgc_top.specs.declared.status.Status.{Status}
 use Rattle.lgc_top.specs.declared.status.Status.TheVariants.{Done, Refuted, BadSpec, BadInput, Rejected}
-use Rattle.lgc_top.specs.Commands.{Command, Calculus, Verify, Prove, Check, Clauses, spec_of, command_of}
+use Rattle.lgc_top.specs.Commands.{Command, Calculus, Verify, Prove, Check, Clauses, Tableaux, spec_of, command_of}
 use Rattle.lgc_top.specs.Verify.{RulesGiven}
 use Rattle.lgc_top.specs.Prove.{QueriesGiven}
 use Rattle.lgc_top.specs.Check.{ReportGiven}
@@ -48,6 +48,7 @@ LogicMeans Has (Verify file rules) logic status = InputMeans Has rules (RulesGiv
 LogicMeans Has (Prove file queries) logic status = InputMeans Has queries (QueriesGiven logic) (All (IsSatisfiedEverywhere logic)) Refuted status
 LogicMeans Has (Check file report) logic status = InputMeans Has report (ReportGiven logic) (λ given. IsValid logic (plain_report given)) Rejected status
 LogicMeans Has (Clauses file queries) logic status = InputMeans Has queries (QueriesGiven logic) (λ given. Unit {0}) Done status
+LogicMeans Has (Tableaux file queries) logic status = InputMeans Has queries (QueriesGiven logic) (All (IsSatisfiedEverywhere logic)) Refuted status
 
 -- What the bytes of a specification mean: a fault BadSpec, and else what its logic means.
 abbrev pub SpecMeans : (List ℕ → List ℕ → Type 0) → Command → Result Spec SpecFault → Status → Type 0

@@ -18,7 +18,8 @@ use Rattle.lgc_top.specs.Verify.{RulesGiven, IsVerdictText}
 use Rattle.lgc_top.specs.Prove.{QueriesGiven, IsReportOn}
 use Rattle.lgc_top.specs.Check.{ReportGiven, IsVerdictOn, IsSoundOn}
 use Rattle.lgc_top.specs.Clauses.{IsClausesOn}
-use Rattle.lgc_top.specs.Commands.{Command, Calculus, Verify, Prove, Check, Clauses, spec_of, input_of, command_of}
+use Rattle.lgc_top.specs.Tableaux.{IsTableauxOn}
+use Rattle.lgc_top.specs.Commands.{Command, Calculus, Verify, Prove, Check, Clauses, Tableaux, spec_of, input_of, command_of}
 
 -- a run: its words, and its files and sinks before and after it
 pub record Run : Type 0 where
@@ -68,6 +69,7 @@ HasInputFault (Verify _ _) logic bytes number offset = RulesGiven logic bytes (E
 HasInputFault (Prove _ _) logic bytes number offset = QueriesGiven logic bytes (Err (input.Fault number offset))
 HasInputFault (Check _ _) logic bytes number offset = ReportGiven logic bytes (Err (input.Fault number offset))
 HasInputFault (Clauses _ _) logic bytes number offset = QueriesGiven logic bytes (Err (input.Fault number offset))
+HasInputFault (Tableaux _ _) logic bytes number offset = QueriesGiven logic bytes (Err (input.Fault number offset))
 
 -- the same, and the line tells it
 pub record IsInputFaultOf (command : Command) (logic : Logic) (bytes line : List ℕ) : Type 0 where
@@ -92,6 +94,8 @@ Works (Prove file queries) files Refuted text = WorksOn (Prove file queries) fil
 Works (Check file report) files Done line = WorksOn (Check file report) files (λ logic bytes. IsVerdictOn logic true bytes line)
 Works (Check file report) files Rejected line = WorksOn (Check file report) files (λ logic bytes. IsVerdictOn logic false bytes line)
 Works (Clauses file queries) files Done text = WorksOn (Clauses file queries) files (λ logic bytes. IsClausesOn logic bytes text)
+Works (Tableaux file queries) files Done text = WorksOn (Tableaux file queries) files (λ logic bytes. IsTableauxOn logic true bytes text)
+Works (Tableaux file queries) files Refuted text = WorksOn (Tableaux file queries) files (λ logic bytes. IsTableauxOn logic false bytes text)
 Works command files status text = ⊥
 
 -- each status that comes of what the files hold, with its cause, and with the bytes that are put under it
@@ -159,6 +163,10 @@ PrintsVerdictOn run file report accepted = PrintsOn run (Check file report) (λ 
 -- it tells the signed clauses of the queries
 abbrev pub PrintsClauses : Run → List ℕ → List ℕ → Type 0
 PrintsClauses run file queries = PrintsOn run (Clauses file queries) IsClausesOn
+
+-- it has the tableaux of the queries, and `all_closed` tells whether all of them are closed
+abbrev pub PrintsTableaux : Run → List ℕ → List ℕ → Bool → Type 0
+PrintsTableaux run file queries all_closed = PrintsOn run (Tableaux file queries) (λ logic bytes text. IsTableauxOn logic all_closed bytes text)
 
 -- the second file has a report, which is sound for the logic of the first
 pub record IsSoundFor (run : Run) (file report : List ℕ) : Type 0 where

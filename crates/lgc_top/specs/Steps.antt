@@ -4,7 +4,7 @@ use Rattle.lgc_io.specs.Files.{FilesState, FailsAt}
 use Rattle.lgc_top.specs.declared.command.Command.{Command}
 use Rattle.lgc_top.specs.declared.command.Command.TheVariants.{Calculus, OnBoth}
 use Rattle.lgc_top.specs.declared.command.Work.{Work}
-use Rattle.lgc_top.specs.declared.command.Work.TheVariants.{Verify, Prove, Check, Clauses}
+use Rattle.lgc_top.specs.declared.command.Work.TheVariants.{Verify, Prove, Check, Clauses, Tableaux}
 use Rattle.lgc_rules.specs.declared.file.TheConstants as rules
 use Rattle.lgc_queries.specs.declared.TheConstants as queries
 use Rattle.lgc_report_reader.specs.declared.report.TheConstants as report
@@ -23,6 +23,7 @@ on_both Verify spec rules = words.Verify spec rules
 on_both Prove spec queries = words.Prove spec queries
 on_both Check spec report = words.Check spec report
 on_both Clauses spec queries = words.Clauses spec queries
+on_both Tableaux spec queries = words.Tableaux spec queries
 
 -- the greatest length of the second file
 abbrev pub limit_of : Work → ℕ
@@ -30,6 +31,7 @@ limit_of Verify = rules.LONGEST_FILE
 limit_of Prove = queries.LONGEST_FILE
 limit_of Check = report.LONGEST_REPORT
 limit_of Clauses = queries.LONGEST_FILE
+limit_of Tableaux = queries.LONGEST_FILE
 
 -- the command that a value stands for
 abbrev pub asked : Command → words.Command

@@ -7,14 +7,14 @@ ghost use Rattle.lgc_spec.specs.Logics.{logic_of};
 ghost use Rattle.lgc_syntax.specs.declared.fault.TheConstants.{FILE_TOO_LONG};
 ghost use Rattle.lgc_top.specs.FaultLine.{fault_line, input_line};
 ghost use Rattle.lgc_top.specs.Commands as commands;
-ghost use Rattle.lgc_top.specs.Commands.{Calculus, Verify, Prove, Check, Clauses, spec_of, input_of, command_of};
+ghost use Rattle.lgc_top.specs.Commands.{Calculus, Verify, Prove, Check, Clauses, Tableaux, spec_of, input_of, command_of};
 ghost use Rattle.lgc_top.specs.Run.{HasSpec, HasInput, HasInputFault};
 ghost use Rattle.lgc_top.specs.Steps.{on_both, limit_of, Answered, Stops, ReadStops, Refuses, verdict_status, answer_status};
 
 use crate::command::{Command, Format, Work, command_of};
 use crate::fault_line::{fault_line, input_line, read_line};
 use crate::status::Status;
-use crate::work::{calculus_of, clauses_of, report_of, verdict_of, verdicts_of};
+use crate::work::{calculus_of, clauses_of, report_of, tableaux_of, verdict_of, verdicts_of};
 use lgc_io::{FileFault, Files, Reading};
 use lgc_spec::{Kept, Spec, SpecFault, read_spec};
 use lgc_syntax::InputFault;
@@ -254,6 +254,22 @@ fn clauses(alloc: Global, spec: &Spec, bytes: &[u8]) -> Result<Answer, Stop>
     }
 }
 
+fn tableaux(alloc: Global, spec: &Spec, bytes: &[u8]) -> Result<Answer, Stop>
+    requires logic { IsLogic (logic_of spec.now) }
+    requires designated { spec.now.designated < 2 ^ length spec.now.values }
+    ensures { (file queries : List ℕ) (files files_after : FilesState) → files_after ≡ files → HasInput (Tableaux file queries) files spec.now bytes.now →
+        Answered (Some (Tableaux file queries)) files files_after result }
+{
+    match tableaux_of(alloc, spec, bytes) {
+        Ok(told) => Ok(Answer {
+            status: answer_status(told.all_closed),
+            bytes: told.text,
+        }),
+        Err(InputFault::Fault { number, offset }) => Err(bad_input(alloc, number, offset)),
+        Err(InputFault::Memory) => Err(Stop::Memory),
+    }
+}
+
 // ---- commands on two files
 
 // The greatest length of the second file.
@@ -262,7 +278,7 @@ fn limit_of(work: Work) -> u32
 {
     match work {
         Work::Verify => lgc_rules::LONGEST_FILE as u32,
-        Work::Prove | Work::Clauses => lgc_queries::LONGEST_FILE as u32,
+        Work::Prove | Work::Clauses | Work::Tableaux => lgc_queries::LONGEST_FILE as u32,
         Work::Check => lgc_report_reader::LONGEST_REPORT,
     }
 }
@@ -279,6 +295,7 @@ fn work_on(alloc: Global, spec: &Spec, bytes: &[u8], work: Work) -> Result<Answe
         Work::Prove => report(alloc, spec, bytes),
         Work::Check => verdict(alloc, spec, bytes),
         Work::Clauses => clauses(alloc, spec, bytes),
+        Work::Tableaux => tableaux(alloc, spec, bytes),
     }
 }
 

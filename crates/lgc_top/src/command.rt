@@ -15,6 +15,8 @@ pub(crate) enum Work {
     Check,
     /// The signed clauses of its queries.
     Clauses,
+    /// Tableaux of its queries.
+    Tableaux,
 }
 
 /// How a calculus is printed.
@@ -59,6 +61,7 @@ fn work_of(word: &str) -> Option<Work>
         "prove" => Some(Work::Prove),
         "check" => Some(Work::Check),
         "clauses" => Some(Work::Clauses),
+        "tableau" => Some(Work::Tableaux),
         _ => None,
     }
 }

@@ -3,8 +3,8 @@ ghost use Rattle.std.specs.Prelude.{◌≡◌, ◌⊎◌, ℕ, List, Some, map, 
 ghost use Rattle.lgc_io.specs.Files.{FilesState};
 ghost use Rattle.lgc_top.specs.declared.command.Format.{Format};
 ghost use Rattle.lgc_top.specs.declared.status.Status.{Status};
-ghost use Rattle.lgc_top.specs.Commands.{Calculus, Verify, Prove, Check, Clauses, command_of};
-ghost use Rattle.lgc_top.specs.Run.{run_of, Answers, Ends, PrintsCalculus, PrintsVerdicts, PrintsReport, PrintsVerdictOn, PrintsClauses, IsSoundFor, AfterPut};
+ghost use Rattle.lgc_top.specs.Commands.{Calculus, Verify, Prove, Check, Clauses, Tableaux, command_of};
+ghost use Rattle.lgc_top.specs.Run.{run_of, Answers, Ends, PrintsCalculus, PrintsVerdicts, PrintsReport, PrintsVerdictOn, PrintsClauses, PrintsTableaux, IsSoundFor, AfterPut};
 ghost use Rattle.lgc_top.specs.Means.{IsFaultless, Means};
 
 use crate::answer::{Answer, Stop, answer_to};
@@ -96,8 +96,8 @@ pub fn run_multlog<F: Files, O: Sink, E: Sink>(
     ensures invalid { let run = run_of (map string_bytes words.now) (F.state files.old) (F.state files.new) (O.state out.old) (O.state out.new) (E.state err.old) (E.state err.new) in
         (file report : List ℕ) → command_of (map string_bytes words.now) ≡ Some (Check file report) → result ≡ Status.Rejected → PrintsVerdictOn run file report false }
 
-    // What `check` accepts is sound: each line that doesn't rest on a pending one holds in every finite structure of the logic, under every
-    // assignment, and so does each sequent that is claimed and each query that is called proved.
+    // What `check` accepts is sound: each line that doesn't rest on a pending one is true in all finite structures of the logic, whatever its
+    // free variables stand for, and so is each sequent that is claimed and each query that is called proved.
     ensures sound { let run = run_of (map string_bytes words.now) (F.state files.old) (F.state files.new) (O.state out.old) (O.state out.new) (E.state err.old) (E.state err.new) in
         (file report : List ℕ) → command_of (map string_bytes words.now) ≡ Some (Check file report) → result ≡ Status.Done → IsSoundFor run file report }
 
@@ -105,6 +105,13 @@ pub fn run_multlog<F: Files, O: Sink, E: Sink>(
     // values outside its sign, without what is always true and what another one subsumes.
     ensures clauses { let run = run_of (map string_bytes words.now) (F.state files.old) (F.state files.new) (O.state out.old) (O.state out.new) (E.state err.old) (E.state err.new) in
         (file queries : List ℕ) → command_of (map string_bytes words.now) ≡ Some (Clauses file queries) → result ≡ Status.Done → PrintsClauses run file queries }
+
+    // With `Done` or `Refuted` the output of `tableau` gained a closed tableau for each goal that every valuation makes true, and a valuation
+    // for each other one. With `Done` all are closed.
+    ensures closed { let run = run_of (map string_bytes words.now) (F.state files.old) (F.state files.new) (O.state out.old) (O.state out.new) (E.state err.old) (E.state err.new) in
+        (file queries : List ℕ) → command_of (map string_bytes words.now) ≡ Some (Tableaux file queries) → result ≡ Status.Done → PrintsTableaux run file queries true }
+    ensures unclosed { let run = run_of (map string_bytes words.now) (F.state files.old) (F.state files.new) (O.state out.old) (O.state out.new) (E.state err.old) (E.state err.new) in
+        (file queries : List ℕ) → command_of (map string_bytes words.now) ≡ Some (Tableaux file queries) → result ≡ Status.Refuted → PrintsTableaux run file queries false }
 
     // Where the files are told, the status is the one that they mean, unless something fails or memory runs out: `BadSpec` for a
     // fault of the specification, then `BadInput` for one of the second file, and else that of the work.

@@ -7,6 +7,7 @@ ghost use Rattle.lgc_top.specs.Verify.{JudgesBytes};
 ghost use Rattle.lgc_top.specs.Prove.{ReportsOnBytes, QueriesRefused};
 ghost use Rattle.lgc_top.specs.Check.{ChecksBytes};
 ghost use Rattle.lgc_top.specs.Clauses.{IsClausesOn};
+ghost use Rattle.lgc_top.specs.Tableaux.{IsTableauxOn};
 
 use crate::command::Format;
 use lgc_calculus::derive_calculus;
@@ -20,6 +21,7 @@ use lgc_report_reader::read_report;
 use lgc_rules::read_rules;
 use lgc_spec::{Spec, matrix_of};
 use lgc_syntax::InputFault;
+use lgc_tableaux::{Tableaux, tableaux_text};
 use lgc_values::Matrix;
 use lgc_verify::{Judged, judge_rules};
 use std::alloc::{AllocError, Global};
@@ -94,6 +96,23 @@ fn clauses<const N: usize>(alloc: Global, spec: &Spec, bytes: &[u8]) -> Result<V
     }
 }
 
+fn tableaux<const N: usize>(
+    alloc: Global,
+    spec: &Spec,
+    bytes: &[u8],
+) -> Result<Tableaux, InputFault>
+    requires size { length spec.now.values ≡ N }
+    requires logic { IsLogic (logic_of spec.now) }
+    requires designated { spec.now.designated < 2 ^ N }
+    ensures { MatchResult result (λ told. IsTableauxOn (logic_of spec.now) told.all_closed bytes.now told.text.items) (QueriesRefused (logic_of spec.now) bytes.now) }
+{
+    let m: Matrix<N> = matrix_of(alloc, spec)?;
+    match read_queries(alloc, &m, bytes) {
+        Ok(queries) => Ok(tableaux_text(alloc, &m, queries.items())?),
+        Err(fault) => Err(fault),
+    }
+}
+
 // A call at the number of truth values that is known when it runs.
 macro_rules! at_size {
     ($size:expr, $call:ident($($argument:expr),*)) => {
@@ -163,4 +182,14 @@ pub(crate) fn clauses_of(alloc: Global, spec: &Spec, bytes: &[u8]) -> Result<Vec
 {
     let size = spec.values.len();
     at_size!(size, clauses(alloc, spec, bytes))
+}
+
+/// The tableaux of the queries of a query file for the specification's logic, and whether all of them are closed; or the file's first fault.
+pub(crate) fn tableaux_of(alloc: Global, spec: &Spec, bytes: &[u8]) -> Result<Tableaux, InputFault>
+    requires logic { IsLogic (logic_of spec.now) }
+    requires designated { spec.now.designated < 2 ^ length spec.now.values }
+    ensures { MatchResult result (λ told. IsTableauxOn (logic_of spec.now) told.all_closed bytes.now told.text.items) (QueriesRefused (logic_of spec.now) bytes.now) }
+{
+    let size = spec.values.len();
+    at_size!(size, tableaux(alloc, spec, bytes))
 }

@@ -1,4 +1,4 @@
-use Rattle.lgc_top.proofs.Endings.{prints_calculus, prints_right, prints_rejected, prints_proved, prints_refuted, prints_accepted, prints_invalid, sound_accepted, prints_clauses}
+use Rattle.lgc_top.proofs.Endings.{prints_calculus, prints_right, prints_rejected, prints_proved, prints_refuted, prints_accepted, prints_invalid, sound_accepted, prints_clauses, prints_closed, prints_unclosed}
 use Rattle.lgc_top.proofs.Meanings.{completes}
 use Rattle.lgc_top.proofs.run.run_multlog.Goals as goal
 
@@ -28,6 +28,12 @@ returns-clause-sound g c file report = sound_accepted _ file report _ c.run_word
 
 pub returns-clause-clauses : goal.returns-clause-clauses
 returns-clause-clauses g c file queries = prints_clauses _ file queries _ c.run_words.ensures
+
+pub returns-clause-closed : goal.returns-clause-closed
+returns-clause-closed g c file queries = prints_closed _ file queries _ c.run_words.ensures
+
+pub returns-clause-unclosed : goal.returns-clause-unclosed
+returns-clause-unclosed g c file queries = prints_unclosed _ file queries _ c.run_words.ensures
 
 pub returns-clause-complete : goal.returns-clause-complete
 returns-clause-complete g c meant means none = completes _ meant means none _ c.run_words.ensures
