@@ -1,5 +1,6 @@
 pub mod Endings
 pub mod Meanings
+pub mod Promises
 pub mod Stops
 pub mod Judging
 pub mod FewQueries

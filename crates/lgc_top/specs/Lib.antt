@@ -8,4 +8,5 @@ pub mod Tableaux
 pub mod Commands
 pub mod Run
 pub mod Means
+pub mod Promise
 pub mod Steps
